@@ -1,0 +1,4 @@
+pub mod Causes
+pub mod FileTree
+pub mod Held
+pub mod Sinks
