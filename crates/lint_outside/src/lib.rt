@@ -3,10 +3,16 @@
 
 mod files;
 mod gate;
+mod mem_sink;
 mod outside;
+mod real_files;
+mod real_sink;
 mod sink;
 
 pub use files::Files;
 pub use gate::{Gate, OpenGate};
+pub use mem_sink::MemSink;
 pub use outside::{Content, FilesFault, Kind, Listing, Question, SinkFault};
+pub use real_files::RealFiles;
+pub use real_sink::RealSink;
 pub use sink::Sink;
