@@ -3,6 +3,7 @@
 
 mod files;
 mod gate;
+mod mem_files;
 mod mem_sink;
 mod outside;
 mod real_files;
@@ -11,6 +12,7 @@ mod sink;
 
 pub use files::Files;
 pub use gate::{Gate, OpenGate};
+pub use mem_files::MemFiles;
 pub use mem_sink::MemSink;
 pub use outside::{Content, FilesFault, Kind, Listing, Question, SinkFault};
 pub use real_files::RealFiles;
