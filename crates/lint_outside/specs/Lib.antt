@@ -1,6 +1,8 @@
 pub mod Causes
 pub mod Counts
+pub mod FailingSink
 pub mod FileTree
+pub mod FirstPart
 pub mod Held
 pub mod MemFiles
 pub mod MemSink

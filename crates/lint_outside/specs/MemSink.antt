@@ -1,5 +1,5 @@
 -- What a sink in memory shows: the bytes that it took, the room that is left, and how often it failed.
-use Rattle.std.specs.Prelude.{ℕ, List}
+use Rattle.std.specs.Prelude.{ℕ, List, [], length, if◌then◌else◌, nat_le}
 use Rattle.lint_outside.specs.declared.mem_sink.MemSink.{MemSink}
 
 -- what was written, in order
@@ -13,3 +13,7 @@ sink_room sink = sink.room
 -- how often it has failed
 abbrev pub sink_faults : MemSink → ℕ
 sink_faults sink = sink.faults
+
+-- what a sink with so much room takes of a piece: all of it, or nothing of a longer one
+abbrev pub taken_of : ℕ → List ℕ → List ℕ
+taken_of room piece = if nat_le (length piece) room then piece else []

@@ -1,6 +1,8 @@
 //! The outside: devices of files, sinks for output and gates, by traits, in memory and in earnest.
 #![tactic(auto)]
 
+mod calls;
+mod failing_sink;
 mod files;
 mod gate;
 mod mem_files;
@@ -10,6 +12,8 @@ mod real_files;
 mod real_sink;
 mod sink;
 
+pub use calls::Calls;
+pub use failing_sink::FailingSink;
 pub use files::Files;
 pub use gate::{Gate, OpenGate};
 pub use mem_files::MemFiles;

@@ -49,7 +49,7 @@ impl MemSink {
 }
 
 impl Sink for MemSink {
-    ghost use Rattle.lint_outside.specs.MemSink.{sink_bytes, sink_room, sink_faults};
+    ghost use Rattle.lint_outside.specs.MemSink.{sink_bytes, sink_room, sink_faults, taken_of};
 
     ghost written = { λ sink. Some (sink_bytes sink) };
 
@@ -63,10 +63,9 @@ impl Sink for MemSink {
 
         // It takes the whole piece, or fails and takes nothing.
         ensures fits { IsOk result ↔ (length bytes.now ≤ sink_room self.old) }
-        ensures room { OnOk result (sink_room self.new + length bytes.now ≡ sink_room self.old) }
+        ensures taken { sink_bytes self.new ≡ sink_bytes self.old ++ taken_of (sink_room self.old) bytes.now }
+        ensures room { sink_room self.new + length (taken_of (sink_room self.old) bytes.now) ≡ sink_room self.old }
         ensures same { OnOk result (sink_faults self.new ≡ sink_faults self.old) }
-        ensures nothing { OnErr result (sink_bytes self.new ≡ sink_bytes self.old) }
-        ensures room_left { OnErr result (sink_room self.new ≡ sink_room self.old) }
         ensures counted { OnErr result (sink_faults self.new ≡ one_more (sink_faults self.old)) }
     {
         if bytes.len() <= self.room as usize && self.bytes.extend_from_slice(bytes).is_ok() {
