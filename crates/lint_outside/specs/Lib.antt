@@ -1,5 +1,6 @@
 pub mod Causes
 pub mod Counts
+pub mod FailingFiles
 pub mod FailingSink
 pub mod FileTree
 pub mod FirstPart

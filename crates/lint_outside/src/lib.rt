@@ -2,6 +2,7 @@
 #![tactic(auto)]
 
 mod calls;
+mod failing_files;
 mod failing_sink;
 mod files;
 mod gate;
@@ -13,6 +14,7 @@ mod real_sink;
 mod sink;
 
 pub use calls::Calls;
+pub use failing_files::FailingFiles;
 pub use failing_sink::FailingSink;
 pub use files::Files;
 pub use gate::{Gate, OpenGate};
