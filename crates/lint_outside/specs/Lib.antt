@@ -8,4 +8,6 @@ pub mod Held
 pub mod MemFiles
 pub mod MemSink
 pub mod Placed
+pub mod RealFiles
+pub mod RealSink
 pub mod Sinks

@@ -1,12 +1,13 @@
 // The files of the system.
-ghost use Rattle.std.specs.Prelude.{◌≡◌, ◌≤◌, None, [], IfOk};
-ghost use Rattle.lint_outside.specs.Causes.{Rose};
+ghost use Rattle.std.specs.Prelude.{◌≡◌, None, Ok, [], IfOk};
+ghost use Rattle.lint_outside.specs.Causes.{HasCause};
+ghost use Rattle.lint_outside.specs.Counts.{count_after};
 ghost use Rattle.lint_outside.specs.Held.{HasAtMostBytes, HasAtMostNames};
 
 use crate::{Content, Files, FilesFault, Kind, Listing};
 use lint_values::{Bytes, Text, Texts};
 use std::alloc::Global;
-use std::io::{Error, ErrorKind, Read};
+use std::io::{ErrorKind, Read};
 use std::{fs, io, rt};
 
 /// The files of the system. They count their faults, and tell nothing of what they hold.
@@ -19,23 +20,29 @@ pub struct RealFiles<'r, R> {
 }
 
 impl<'r, R: rt::Files + AllocGlobal> RealFiles<'r, R> {
+    ghost use Rattle.lint_outside.specs.RealFiles.{real_faults};
+
     /// The files that a runtime reaches, with no fault counted.
     pub fn new(rt: &'r R) -> RealFiles<'r, R>
-        ensures { result.faults ≡ 0 }
+        ensures { real_faults result ≡ 0 }
     {
         RealFiles { rt, faults: 0 }
     }
 
-    // Want of memory is none of the device's faults. Each other error is, and is counted.
-    fn fault(&mut self, error: Error) -> FilesFault
-        ensures later { self.old.faults ≤ self.new.faults }
-        ensures rose { result ≡ FilesFault.Failed → Rose self.old.faults self.new.faults }
+    // Hands an answer on, and counts an error. Want of memory is none of the device's faults.
+    fn counted<T>(&mut self, answer: io::Result<T>) -> Result<T, FilesFault>
+        ensures value { IfOk result (λ value. answer ≡ Ok value) }
+        ensures cause { HasCause (real_faults self.old) (real_faults self.new) result }
+        ensures exact { real_faults self.new ≡ count_after (real_faults self.old) result }
     {
-        if error.kind() == ErrorKind::OutOfMemory {
-            return FilesFault::Memory;
+        match answer {
+            Ok(value) => Ok(value),
+            Err(error) if error.kind() == ErrorKind::OutOfMemory => Err(FilesFault::Memory),
+            Err(_) => {
+                self.faults = self.faults.saturating_add(1);
+                Err(FilesFault::Failed)
+            }
         }
-        self.faults = self.faults.saturating_add(1);
-        FilesFault::Failed
     }
 }
 
@@ -86,30 +93,26 @@ fn content_at<R: rt::Files>(rt: &R, alloc: Global, path: &str, most: u32) -> io:
 }
 
 impl<'r, R: rt::Files + AllocGlobal> Files for RealFiles<'r, R> {
+    ghost use Rattle.lint_outside.specs.RealFiles.{real_faults};
+
     ghost held = { λ _. None };
 
-    ghost faults = { λ files. files.faults };
+    ghost faults = { λ files. real_faults files };
 
     ghost failed = { λ _. [] };
 
     fn look(&mut self, path: &Text) -> Result<Kind, FilesFault> {
-        match kind_at(self.rt, path.as_str()) {
-            Ok(kind) => Ok(kind),
-            Err(error) => Err(self.fault(error)),
-        }
+        let kind = kind_at(self.rt, path.as_str());
+        self.counted(kind)
     }
 
     fn names(&mut self, alloc: Global, path: &Text, most: u32) -> Result<Listing, FilesFault> {
-        match names_in(self.rt, alloc, path.as_str(), most) {
-            Ok(listing) => Ok(listing),
-            Err(error) => Err(self.fault(error)),
-        }
+        let listing = names_in(self.rt, alloc, path.as_str(), most);
+        self.counted(listing)
     }
 
     fn read(&mut self, alloc: Global, path: &Text, most: u32) -> Result<Content, FilesFault> {
-        match content_at(self.rt, alloc, path.as_str(), most) {
-            Ok(content) => Ok(content),
-            Err(error) => Err(self.fault(error)),
-        }
+        let content = content_at(self.rt, alloc, path.as_str(), most);
+        self.counted(content)
     }
 }
