@@ -1,6 +1,6 @@
 use crate::{
     Calls, Content, FailingFiles, FailingSink, Files, FilesFault, Gate, Kind, Listing, MemFiles,
-    MemSink, OpenGate, Question, RealFiles, RealSink, Sink,
+    MemSink, OpenGate, Question, RealFiles, RealSink, Sink, SinkFault,
 };
 use lint_values::{FileId, Memory, Text, Texts};
 use std::alloc::Global;
@@ -160,35 +160,36 @@ fn chosen_calls_fail(rt: HostRuntime) -> Result<(), Fail> {
     Ok(())
 }
 
+// A plus for each piece that a sink takes, and a minus for each at which it fails.
+fn taken<S: Sink>(alloc: Global, sink: &mut S, pieces: &[&str]) -> Result<String, Memory> {
+    let mut outcomes = String::new(alloc);
+    for piece in pieces {
+        match sink.write(piece.as_bytes()) {
+            Ok(()) => outcomes.push('+')?,
+            Err(SinkFault::Failed) => outcomes.push('-')?,
+        }
+    }
+    Ok(outcomes)
+}
+
 #[test]
 fn memory_takes_whole_pieces(rt: HostRuntime) -> Result<(), Fail> {
-    let mut sink = MemSink::new(rt.alloc(), 3)?;
-    for (piece, is_taken, room) in [
-        ("ab", true, 1),
-        ("cd", false, 1),
-        ("", true, 1),
-        ("e", true, 0),
-        ("f", false, 0),
-    ] {
-        assert_eq!(rt; sink.write(piece.as_bytes()).is_ok(), is_taken, "{piece}");
-        assert_eq!(rt; sink.room(), room, "{piece}");
-    }
+    let alloc = rt.alloc();
+    let mut sink = MemSink::new(alloc, 3)?;
+    let outcomes = taken(alloc, &mut sink, &["ab", "cd", "", "e", "f"])?;
+    assert_eq!(rt; outcomes.as_str(), "+-++-");
+    assert_eq!(rt; sink.room(), 0);
     assert_eq!(rt; sink.bytes(), b"abe".as_slice());
     Ok(())
 }
 
-// The pieces are "ab", "", "c" and "defg", the last of which is longer than the room.
-fn fails_in<R: Abort>(rt: &R, alloc: Global, row: (u32, u32, [bool; 4], &str)) -> Result<(), Fail> {
-    let (nth, taken, are_taken, bytes) = row;
-    let mut sink = FailingSink::new(MemSink::new(alloc, 6)?, nth, taken);
-    for (piece, is_taken) in ["ab", "", "c", "defg"].into_iter().zip(are_taken) {
-        assert_eq!(rt;
-            sink.write(piece.as_bytes()).is_ok(),
-            is_taken,
-            "{nth} {taken} {piece}"
-        );
-    }
-    assert_eq!(rt; sink.bytes(), bytes.as_bytes(), "{nth} {taken}");
+// The last piece may be longer than the room that is left.
+fn fails_in<R: Abort>(rt: &R, alloc: Global, row: (u32, u32, &str, &str)) -> Result<(), Fail> {
+    let (nth, first_part, wants, bytes) = row;
+    let mut sink = FailingSink::new(MemSink::new(alloc, 6)?, nth, first_part);
+    let outcomes = taken(alloc, &mut sink, &["ab", "", "c", "defg"])?;
+    assert_eq!(rt; outcomes.as_str(), wants, "{nth} {first_part}");
+    assert_eq!(rt; sink.bytes(), bytes.as_bytes(), "{nth} {first_part}");
     Ok(())
 }
 
@@ -196,17 +197,17 @@ fn fails_in<R: Abort>(rt: &R, alloc: Global, row: (u32, u32, [bool; 4], &str)) -
 fn chosen_pieces_fail(rt: HostRuntime) -> Result<(), Fail> {
     let alloc = rt.alloc();
     for row in [
-        (0, 0, [true, true, true, false], "abc"),
-        (1, 0, [false, true, true, true], "cdefg"),
-        (1, 1, [false, true, true, true], "acdefg"),
-        (1, 2, [false, true, true, false], "abc"),
-        (1, 3, [false, true, true, true], "acdefg"),
-        (2, 0, [true, false, true, false], "abc"),
-        (2, 1, [true, false, true, false], "abc"),
-        (3, 0, [true, true, false, true], "abdefg"),
-        (3, 1, [true, true, false, false], "abc"),
-        (4, 1, [true, true, true, false], "abcd"),
-        (5, 1, [true, true, true, false], "abc"),
+        (0, 0, "+++-", "abc"),
+        (1, 0, "-+++", "cdefg"),
+        (1, 1, "-+++", "acdefg"),
+        (1, 2, "-++-", "abc"),
+        (1, 3, "-+++", "acdefg"),
+        (2, 0, "+-+-", "abc"),
+        (2, 1, "+-+-", "abc"),
+        (3, 0, "++-+", "abdefg"),
+        (3, 1, "++--", "abc"),
+        (4, 1, "+++-", "abcd"),
+        (5, 1, "+++-", "abc"),
     ] {
         fails_in(&rt, alloc, row)?;
     }
@@ -281,23 +282,19 @@ impl Write for Narrow {
 
 #[test]
 fn real_sinks_write_or_fail(rt: HostRuntime) -> Result<(), Fail> {
-    for (room, flushes, are_taken) in [
-        (5, true, [true, true, true, false]),
-        (9, true, [true, true, true, true]),
-        (1, true, [false, true, false, false]),
-        (9, false, [false, false, false, false]),
+    let alloc = rt.alloc();
+    let pieces = ["ab", "", "cd", "ef"];
+    for (room, flushes, wants) in [
+        (5, true, "+++-"),
+        (9, true, "++++"),
+        (1, true, "-+--"),
+        (9, false, "----"),
     ] {
         let mut sink = RealSink::new(Narrow { room, flushes });
-        for (piece, is_taken) in ["ab", "", "cd", "ef"].into_iter().zip(are_taken) {
-            assert_eq!(rt;
-                sink.write(piece.as_bytes()).is_ok(),
-                is_taken,
-                "{room} {piece}"
-            );
-        }
+        let outcomes = taken(alloc, &mut sink, &pieces)?;
+        assert_eq!(rt; outcomes.as_str(), wants, "{room}");
     }
-
-    let mut bytes = Vec::new(rt.alloc());
+    let mut bytes = Vec::new(alloc);
     let mut sink = RealSink::new(&mut bytes);
     sink.write(b"ab")?;
     sink.write(b"c")?;
