@@ -1,6 +1,6 @@
 -- What files in memory hold: a finite map from each path to what was put there last. A folder's names are the last parts
 -- of the held paths directly below it, in ascending byte order. A folder is held only where it was put itself.
-use Rattle.std.specs.Prelude.{ℕ, List, [], ◌∷◌, map, Option, None, Some, Bool, if◌then◌else◌, ◌==◌, nat_le, length}
+use Rattle.std.specs.Prelude.{ℕ, List, [], ◌∷◌, map, Option, None, Some, if◌then◌else◌, ◌==◌, nat_le, length}
 use Rattle.std.specs.List.{filter_map, list_any}
 use Rattle.std.specs.Option.{option_and_then}
 use Rattle.std.specs.Ordering.{nat_cmp}

@@ -1,4 +1,4 @@
-use Rattle.std.proofs.Common.{◌≡◌, ◌++◌, ◌∷◌, Some, None, sym, ap, ◌∙◌, eqb, lit<}
+use Rattle.std.proofs.Common.{◌++◌, Some, None, sym, ap, ◌∙◌, eqb, lit<}
 use Rattle.std.specs.List.{list_any}
 use Rattle.std.proofs.lemmas.Str.Pattern.{strip_prefix_char}
 use Rattle.lint_outside.proofs.NameIn.{name_in_lacks, name_in_other, name_in_deeper, name_in_folder}

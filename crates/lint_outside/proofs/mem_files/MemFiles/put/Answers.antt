@@ -1,4 +1,4 @@
-use Rattle.std.proofs.Common.{ap, sym, ◌∙◌, Some}
+use Rattle.std.proofs.Common.{ap, ◌∙◌}
 use Rattle.std.specs.FinMap.{insert}
 use Rattle.lint_outside.proofs.MapOf.{insert-map_of}
 use Rattle.lint_outside.proofs.mem_files.MemFiles.put.Goals as goal
