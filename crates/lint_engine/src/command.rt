@@ -174,12 +174,18 @@ pub fn lint_command<R: Threads + Sync, F: Files, O: Sink, E: Sink, G: Gate>(
     ensures stopped { OnSinkFault result.answer (IsStopped words.now result.read (O.written out.old) (O.written out.new) (E.written err.old) (E.written err.new)) }
     ensures cause { OnSinkFault result.answer (Rose (O.faults out.old) (O.faults out.new) ⊎ Rose (E.faults err.old) (E.faults err.new)) }
 
+    // So where no sink's count rises, the command ran, or memory ran out.
+    ensures complete { OnSinkFault result.answer (¬ (Rose (O.faults out.old) (O.faults out.new)) → ¬ (Rose (E.faults err.old) (E.faults err.new)) → ⊥) }
+
     // Without memory nothing was printed.
     ensures unwritten { OnMemory result.answer (IsUnwritten (O.written out.old) (O.written out.new) (E.written err.old) (E.written err.new)) }
 
     // What was read is what the files hold, but for the questions that failed in this call.
     ensures read { ForSome (F.held files.old) (λ tree. OnWritten result.answer (IsReadFrom (line_of words.now) tree (F.failed files.old) (F.failed files.new) (F.faults files.old) (F.faults files.new) result.read)) }
     ensures failed { HasReadCauses (F.faults files.old) (F.faults files.new) result.read }
+
+    // So where the files' count does not rise, nothing that was read has failed.
+    ensures none_failed { ¬ (Rose (F.faults files.old) (F.faults files.new)) → count_by is_failed result.read.list ≡ 0 }
 {
     let fault = match read_words(alloc, words) {
         Ok(line) => return lint_line(rt, alloc, &line, files, out, gate),
