@@ -1,8 +1,8 @@
 -- How many bytes characters take.
-use Rattle.std.proofs.Common.{◌≡◌, ℕ, zero, suc, ◌+◌, ◌-◌, ◌≤◌, ◌<◌, List, [], ◌∷◌, ◌++◌, length, take, drop, get_or, refl, sym, ap, ◌∙◌, subst, arith, encode_utf8_all, encode_utf8, append_assoc, append-nil}
+use Rattle.std.proofs.Common.{◌≡◌, ℕ, zero, suc, ◌+◌, ◌-◌, ◌≤◌, ◌<◌, ◌*◌, List, [], ◌∷◌, ◌++◌, length, take, drop, get_or, refl, sym, ap, ◌∙◌, subst, arith, encode_utf8_all, encode_utf8, append_assoc, append-nil}
 use Rattle.std.specs.Char.{len_utf8}
 use Rattle.std.proofs.lemmas.List.{take_more, length-append, take-append-drop, take_at, drop_at}
-use Rattle.std.proofs.lemmas.Str.{encodes-append, length-encode}
+use Rattle.std.proofs.lemmas.Str.{encodes-append, length-encode, len_utf8_bounds}
 
 encodes_one : (c : ℕ) → length (encode_utf8_all (c ∷ [])) ≡ len_utf8 c
 encodes_one c = ap length (append-nil (encode_utf8 c)) ∙ length-encode c
@@ -18,6 +18,13 @@ pub encodes_front : (cs : List ℕ) (i : ℕ) → length (encode_utf8_all (take 
 encodes_front cs i =
     let cut : encode_utf8_all (take i cs) ++ encode_utf8_all (drop i cs) ≡ encode_utf8_all cs = sym (encodes-append (take i cs) (drop i cs)) ∙ ap encode_utf8_all (take-append-drop i cs) in
     omega (arith, ap length cut, length-append (encode_utf8_all (take i cs)) (encode_utf8_all (drop i cs)))
+
+-- a character takes four bytes at most
+pub encodes_bound : (cs : List ℕ) → length (encode_utf8_all cs) ≤ 4 * length cs
+encodes_bound [] = omega arith
+encodes_bound (c ∷ cs) =
+    let rest = encodes_bound cs in
+    omega (arith, rest, length-append (encode_utf8 c) (encode_utf8_all cs), length-encode c, (len_utf8_bounds c).1)
 
 -- characters in the middle of a text are a slice of its bytes
 pub middle : (a t b : List ℕ) → take (length (encode_utf8_all t)) (drop (length (encode_utf8_all a)) (encode_utf8_all (a ++ (t ++ b)))) ≡ encode_utf8_all t

@@ -123,18 +123,34 @@ fn columns_count_bytes(rt: HostRuntime) -> Result<(), Fail> {
 }
 
 /// So many characters lead from the place to the other.
+#[tactic(auto, using(crate::proofs::Encoding::encodes_bound))]
 fn moves_to(rt: &impl Abort, from: Pos, characters: &[char], count: usize, to: Pos) {
-    assert!(rt;
-        characters.len() < 1000 && count <= characters.len() && from.line < 1000 && from.col < 1000
-    );
+    assert!(rt; characters.len() < 1000);
+    assert!(rt; count <= characters.len());
+    assert!(rt; from.line < 1000);
+    assert!(rt; from.col < 1000);
     assert_eq!(rt; advance(from, characters, count), to);
+}
+
+/// The characters take so many bytes.
+#[tactic(auto, using(crate::proofs::Encoding::encodes_bound))]
+fn takes_bytes(rt: &impl Abort, characters: &[char], len: usize) {
+    assert!(rt; characters.len() < 1000);
+    assert_eq!(rt; byte_len(characters), len);
+}
+
+/// The text holds the part at the span.
+fn holds_part(rt: &impl Abort, text: &str, span: Span, part: &str) {
+    assert!(rt; span.start <= span.end);
+    assert!(rt; text.is_char_boundary(span.start as usize));
+    assert!(rt; text.is_char_boundary(span.end as usize));
+    assert_eq!(rt; slice(text, span), part);
 }
 
 #[test]
 fn a_slice_is_between_its_places(rt: HostRuntime) -> Result<(), Fail> {
-    assert_eq!(rt; slice("abc", line(1, 2)), "b");
+    holds_part(&rt, "a\u{e9}b", line(1, 3), "\u{e9}");
     let all = characters(rt.alloc(), "\u{e9}x")?;
-    assert!(rt; all.len() < 1000);
-    assert_eq!(rt; byte_len(all.as_slice()), 3);
+    takes_bytes(&rt, all.as_slice(), 3);
     Ok(())
 }
