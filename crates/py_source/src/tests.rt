@@ -123,7 +123,7 @@ fn columns_count_bytes(rt: HostRuntime) -> Result<(), Fail> {
 }
 
 /// So many characters lead from the place to the other.
-#[tactic(auto, using(crate::proofs::Encoding::encodes_bound))]
+#[tactic(auto, using(crate::proofs::Encoding::encodes_bound, crate::proofs::Encoding::encodes_front))]
 fn moves_to(rt: &impl Abort, from: Pos, characters: &[char], count: usize, to: Pos) {
     assert!(rt; characters.len() < 1000);
     assert!(rt; count <= characters.len());
