@@ -1,5 +1,5 @@
 -- Items have one first fault, or one layout and no fault.
-use Rattle.std.proofs.Common.{◌≡◌, ℕ, ◌+◌, ◌≤◌, ◌<◌, List, [], ◌∷◌, ◌++◌, length, refl, sym, ap, ◌∙◌, arith, Result, Ok, Err, IfOk, IfErr, reverse, nat_lt, get_or}
+use Rattle.std.proofs.Common.{◌≡◌, ℕ, ◌≤◌, ◌<◌, List, [], ◌∷◌, ◌++◌, length, refl, sym, ap, ◌∙◌, arith, Result, Ok, Err, IfOk, IfErr, reverse, nat_lt, get_or}
 use Rattle.std.specs.Global.{Vec}
 use Rattle.std.proofs.lemmas.Grind.{reverse_onto}
 use Rattle.std.proofs.lemmas.List.{same_from_push, length-append}
@@ -18,7 +18,7 @@ use Rattle.py_layout.specs.declared.fault.LayoutFault.TheVariants.{At, Memory}
 use Rattle.py_layout.specs.Brackets.{left_open}
 use Rattle.py_layout.specs.LogicalLines.{lines_of}
 use Rattle.py_layout.specs.Indentation.{ground, levelled}
-use Rattle.py_layout.specs.FirstFault.{IsLineFault, IsItemFault, IsOpenBracket, IsFirstFault, IsLaidOut, OnFault, GivesOnly, FaultsOnly}
+use Rattle.py_layout.specs.FirstFault.{IsLineFault, IsItemFault, IsFirstFault, IsLaidOut, OnFault, GivesOnly, FaultsOnly}
 use Rattle.py_layout.specs.Answers.{IsBracketFault, IsBracketWithin, item_fault, earlier}
 
 line_fault_unique : (items : List Item) (n m : ℕ) (c d : IndentationCause) → IsLineFault items n c → IsLineFault items m d → (n ≡ m) × (c ≡ d)
