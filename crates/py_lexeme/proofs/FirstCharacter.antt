@@ -18,6 +18,7 @@ use Rattle.py_lexeme.specs.Operators.{operators}
 use Rattle.py_lexeme.specs.Faults.{begins_number}
 use Rattle.py_lexeme.specs.Scan.{shape_from, shape_at}
 use Rattle.py_lexeme.proofs.Shapes.{IsShaped}
+use Rattle.py_lexeme.proofs.Runs.{any_all}
 
 -- ---- shapes as numbers, so that a table can be computed
 
@@ -128,12 +129,6 @@ begins_op (c ∷ t) = tells Symbol c
 operators_begin : list_all begins_op operators ≡ true
 unfolding operators begins_op shape_from tells tag unicode_ident
 operators_begin = refl
-
-any_all : (p q : Text → Bool) (ts : List Text) → list_any p ts ≡ true → list_all q ts ≡ true → (t : Text) × (p t ≡ true) × (q t ≡ true)
-any_all p q [] a b = absurd (both_ways _ refl a)
-any_all p q (t ∷ ts) a b =
-    let parts : (q t ≡ true) × (list_all q ts ≡ true) = and_parts _ _ b in
-    ⊎_elim (λ here. (t, here, parts.0)) (λ there. any_all p q ts there parts.1) (or_cases _ _ a)
 
 op_first : (c : ℕ) (t : Text) → list_any (bytes_eq (c ∷ t)) operators ≡ true → shape_from c ≡ Symbol
 unfolding begins_op

@@ -5,7 +5,7 @@ use Rattle.std.proofs.lemmas.Slice.Eq.{bytes_eq-Decides}
 use Rattle.std.proofs.lemmas.List.{length-take-le, length-drop, drop-take}
 use Rattle.std.proofs.lemmas.Grind.{common_steps}
 use Rattle.py_lexeme.specs.Characters.{Text, begins_with, ends_line}
-use Rattle.py_lexeme.specs.Scan.{further, close, longest_of}
+use Rattle.py_lexeme.specs.Scan.{further, close, longest_of, is_single}
 
 pub begins_with_length : (op cs : Text) → begins_with op cs ≡ true → length op ≤ length cs
 begins_with_length [] cs e = omega arith
@@ -39,3 +39,8 @@ longest_within (op ∷ ops) cs =
 -- what is found behind the first n characters lies within the text
 pub further_behind : (n d : ℕ) (cs : Text) → d ≤ length (drop n cs) → further n d ≤ length cs
 further_behind n d cs h = cond_both (d == 0) 0 (n + d) (λ k. k ≤ length cs) (λ _. omega arith) (λ ne. let some : d ≢ 0 = eqb-false d 0 ne in omega (arith, length-drop n cs))
+
+-- a character that is an operator stands in the text
+pub single_within : (cs : Text) → is_single (slice_index cs 0) ≡ true → 1 ≤ length cs
+single_within [] e = absurd (both_ways _ refl e)
+single_within (c ∷ cs) e = omega arith

@@ -5,6 +5,7 @@ pub mod Shapes
 pub mod Decimals
 pub mod Strings
 pub mod FirstCharacter
+pub mod OperatorLaws
 pub mod NumberLaws
 pub mod LineLaws
 pub mod StringFronts

@@ -76,3 +76,10 @@ table_found (op ∷ ops) cs h =
     (cases_lt (longest_of ops cs) (length op)))
     (λ _. later)
     h
+
+-- what is in a table has what all of the table have
+pub any_all : (p q : List ℕ → Bool) (ts : List (List ℕ)) → list_any p ts ≡ true → list_all q ts ≡ true → (t : List ℕ) × (p t ≡ true) × (q t ≡ true)
+any_all p q [] a b = absurd (both_ways _ refl a)
+any_all p q (t ∷ ts) a b =
+    let parts : (q t ≡ true) × (list_all q ts ≡ true) = and_parts _ _ b in
+    ⊎_elim (λ here. (t, here, parts.0)) (λ there. any_all p q ts there parts.1) (or_cases _ _ a)

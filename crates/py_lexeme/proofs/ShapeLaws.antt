@@ -15,7 +15,7 @@ use Rattle.py_lexeme.specs.Strings.{is_string, is_prefix, prefix_of, begins_stri
 use Rattle.py_lexeme.specs.Operators.{operators, is_operator}
 use Rattle.py_lexeme.specs.Faults.{begins_number}
 use Rattle.py_lexeme.specs.Scan.{string, number, shape_from, shape_at, len_of}
-use Rattle.py_lexeme.proofs.Runs.{table_longest, table_found}
+use Rattle.py_lexeme.proofs.OperatorLaws.{operator_fits, operator_found}
 use Rattle.py_lexeme.proofs.Shapes.{IsShaped}
 use Rattle.py_lexeme.proofs.LineLaws.{run_fits, run_found, line_end_fits, line_end_found, hash_is_on_line, comment_fits, head_run, join_fits, join_found, name_fits}
 use Rattle.py_lexeme.proofs.StringFronts.{StringFront, string_front, string_found}
@@ -47,7 +47,7 @@ fits Joint cs n h e = join_fits cs n h e
 fits Word cs n h e = name_fits cs n h e
 fits Numeral cs n h e = number_fits cs n h e
 fits Literal cs n h e = (string_front cs n h e).fits
-fits Symbol cs n h e = table_longest operators cs n h e
+fits Symbol cs n h e = operator_fits cs n h e
 
 -- what the shape says of the first character
 abbrev TestOf : Shape → ℕ → Type 0
@@ -83,7 +83,7 @@ found_from Joint c cs e b h = join_found c cs e h
 found_from Word c cs e b h = head_run starts_identifier is_xid_continue is_identifier (λ _ _. refl) c cs e (start_continues c e)
 found_from Numeral c cs e b h = number_found (c ∷ cs) h
 found_from Literal c cs e b h = absurd (both_ways _ b (quote_begins c cs e))
-found_from Symbol c cs e b h = table_found operators (c ∷ cs) h
+found_from Symbol c cs e b h = operator_found c cs h
 
 -- ---- the shape at the front
 

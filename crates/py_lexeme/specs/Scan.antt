@@ -103,6 +103,28 @@ quoted cs =
 abbrev pub string : Text → ℕ
 string cs = further (prefix_of cs) (quoted (drop (prefix_of cs) cs))
 
+-- ---- operators
+
+-- the second character of an operator that has one
+abbrev pub is_second : ℕ → Bool
+is_second c = c == 61 || c == 42 || c == 47 || c == 60 || c == 62 || c == 46
+
+abbrev pub is_bracket : ℕ → Bool
+is_bracket c = c == 40 || c == 41 || c == 91 || c == 93 || c == 123 || c == 125
+
+abbrev pub is_mark : ℕ → Bool
+is_mark c = c == 44 || c == 58 || c == 46 || c == 59 || c == 61 || c == 60 || c == 62 || c == 64
+
+abbrev pub is_sign : ℕ → Bool
+is_sign c = c == 43 || c == 45 || c == 42 || c == 47 || c == 37 || c == 38 || c == 124 || c == 94 || c == 126
+
+-- the character alone is an operator
+abbrev pub is_single : ℕ → Bool
+is_single c = nat_lt c 128 && (is_bracket c || is_mark c || is_sign c)
+
+abbrev pub operator : Text → ℕ
+operator cs = if is_second (slice_index cs 1) then longest_of operators cs else (if is_single (slice_index cs 0) then 1 else 0)
+
 -- ---- the piece
 
 -- the shape whose texts may begin with the character
@@ -129,7 +151,7 @@ len_of Joint cs = further 1 (line_end (drop 1 cs))
 len_of Word cs = prefix_len is_xid_continue cs
 len_of Numeral cs = number cs
 len_of Literal cs = string cs
-len_of Symbol cs = longest_of operators cs
+len_of Symbol cs = operator cs
 
 -- the kind of a text of this shape
 unfoldable pub kind_of : Shape → Text → Kind

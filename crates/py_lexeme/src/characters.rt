@@ -97,6 +97,7 @@ pub fn all_in(class: Class, text: &[char]) -> bool
     text.iter().all(|c| is_in(class, *c))
 }
 
+#[inline(always)]
 pub fn begins_with(mut cs: &[char], mut op: &[u8]) -> bool
     ensures { result ≡ begins_with op.entry.now cs.entry.now }
 {
@@ -113,6 +114,7 @@ pub fn begins_with(mut cs: &[char], mut op: &[u8]) -> bool
     true
 }
 
+#[inline(always)]
 fn is_text(mut word: &[char], mut text: &[u8]) -> bool
     ensures { result ≡ bytes_eq word.entry.now text.entry.now }
 {

@@ -7,6 +7,7 @@ mod cutting;
 mod identifiers;
 mod literals;
 mod numbers;
+mod operators;
 mod piece;
 mod scan;
 mod tables;

@@ -5,9 +5,10 @@ ghost use Rattle.py_lexeme.specs.Faults.{IsFaulty, cause_of, flaw_of};
 ghost use Rattle.py_lexeme.specs.Scan as spec;
 
 use crate::characters::{Class, behind, char_at, front, further, is_in, is_quote, run};
-use crate::identifiers::{is_keyword, may_follow_number, operator, starts_identifier};
+use crate::identifiers::{is_keyword, may_follow_number, starts_identifier};
 use crate::literals::{begins_string, has_in_prefix, has_wide_byte, is_open, is_prefix, string};
 use crate::numbers::{begins_number, has_leading_zero, number};
+use crate::operators::operator;
 use crate::piece::{Cause, Kind, Piece, Stop};
 
 /// What the first characters tell of a piece.

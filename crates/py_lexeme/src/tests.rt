@@ -33,7 +33,13 @@ fn shape(alloc: Global, text: &str) -> Result<String, Fail> {
 fn shapes(rt: HostRuntime) -> Result<(), Fail> {
     let a = rt.alloc();
     assert_eq!(rt; shape(a, "x = 12\r\n")?.as_str(), "n1b1o1b1d2l2");
-    assert_eq!(rt; shape(a, "if 0xfor x: f'a' rb'a\\\r\nb' # c")?.as_str(), "k2b1d3k2b1n1o1b1f4b1s9b1c3");
-    assert_eq!(rt; shape(a, "1..real 1.e5j .5 0_0 007.5 1if")?.as_str(), "d2o1n4b1d5b1d2b1d3b1d5b1d1k2");
+    assert_eq!(rt;
+        shape(a, "if 0xfor x: f'a' rb'a\\\r\nb' # c")?.as_str(),
+        "k2b1d3k2b1n1o1b1f4b1s9b1c3"
+    );
+    assert_eq!(rt;
+        shape(a, "1..real 1.e5j .5 0_0 007.5 1if")?.as_str(),
+        "d2o1n4b1d5b1d2b1d3b1d5b1d1k2"
+    );
     Ok(())
 }
