@@ -1,5 +1,5 @@
 -- A text is cut in one way.
-use Rattle.std.proofs.Common.{◌≡◌, ℕ, zero, suc, ◌+◌, ◌-◌, ◌≤◌, ◌<◌, Bool, true, false, List, [], ◌∷◌, ◌++◌, length, take, drop, refl, sym, ap, ◌∙◌, subst, arith, ⊎_elim, ◌⊎◌, Result, Ok, Err, Option, Some, None, IfOk}
+use Rattle.std.proofs.Common.{◌≡◌, ◌<◌, List, [], ◌∷◌, ◌++◌, length, drop, refl, sym, ap, ◌∙◌, subst, arith, Result, Ok, Err, Option, Some, None, IfOk}
 use Rattle.lint_values.specs.declared.memory.Memory.{Memory}
 use Rattle.py_lexeme.specs.declared.piece.Piece.{Piece}
 use Rattle.py_lexeme.specs.declared.piece.Stop.{Stop}

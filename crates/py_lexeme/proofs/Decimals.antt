@@ -1,6 +1,6 @@
 -- Decimal numbers: what the scanner finds is one, and the longest.
-use Rattle.std.proofs.Common.{◌≡◌, ◌≢◌, ℕ, zero, suc, ◌+◌, ◌-◌, ◌≤◌, ◌<◌, Bool, true, false, ◌&&◌, ◌||◌, not, List, [], ◌∷◌, ◌++◌, length, take, drop, get_or, slice_index, nat_lt, refl, sym, ap, ◌∙◌, subst, arith, eqb-true, eq-eqb, ◌==◌, ⊎_elim, ◌⊎◌, inl, inr, if◌then◌else◌, append_assoc, zero-add, add-suc, suc-add}
-use Rattle.std.proofs.lemmas.Bool.{and_parts, both_ways, cases_Bool, and_from, cond_both, cases_lt, and_left, and_right, le-ltb, eqb-false, false_from_ne_true, ne_eqb, or_cases, or_parts, and_cases, ltb-false}
+use Rattle.std.proofs.Common.{◌≡◌, ◌≢◌, ℕ, zero, suc, ◌+◌, ◌≤◌, ◌<◌, Bool, true, false, ◌&&◌, ◌||◌, [], ◌∷◌, ◌++◌, length, take, drop, slice_index, nat_lt, refl, sym, ap, ◌∙◌, subst, arith, ◌==◌, ⊎_elim, ◌⊎◌, inl, inr, if◌then◌else◌, append_assoc}
+use Rattle.std.proofs.lemmas.Bool.{and_parts, both_ways, and_from, cond_both, cases_lt, and_left, and_right, le-ltb, eqb-false, ne_eqb, or_parts, and_cases, ltb-false}
 use Rattle.std.proofs.lemmas.Bool.Decides.{nat_tests}
 use Rattle.std.proofs.lemmas.List.{length-append, drop_at, take_at, length-take-le, length-drop, take-append-drop}
 use Rattle.std.proofs.Math.Seq.{take-add}

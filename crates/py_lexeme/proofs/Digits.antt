@@ -1,6 +1,6 @@
 -- Digits with a single `_` between any two.
-use Rattle.std.proofs.Common.{◌≡◌, ◌≢◌, ℕ, zero, suc, ◌+◌, ◌-◌, ◌≤◌, ◌<◌, Bool, true, false, ◌&&◌, ◌||◌, not, List, [], ◌∷◌, length, take, drop, get_or, slice_index, refl, sym, ap, ◌∙◌, subst, arith, eqb-true, eq-eqb, ◌==◌, ⊎_elim, ◌⊎◌, inl, inr, if◌then◌else◌}
-use Rattle.std.proofs.lemmas.Bool.{and_parts, both_ways, cases_Bool, and_from, cond_both, cases_lt, and_left, eqb-false, false_from_ne_true}
+use Rattle.std.proofs.Common.{◌≡◌, ℕ, zero, suc, ◌+◌, ◌-◌, ◌≤◌, ◌<◌, Bool, true, false, ◌&&◌, [], ◌∷◌, length, take, slice_index, refl, sym, ap, ◌∙◌, subst, arith, eqb-true, ◌==◌, ⊎_elim, if◌then◌else◌}
+use Rattle.std.proofs.lemmas.Bool.{and_parts, both_ways, and_from, cond_both, cases_lt, and_left, false_from_ne_true}
 use Rattle.py_lexeme.specs.Characters.{Text}
 use Rattle.py_lexeme.specs.Numbers.{is_digits}
 use Rattle.py_lexeme.specs.Scan.{digits}

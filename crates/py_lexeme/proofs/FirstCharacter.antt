@@ -1,11 +1,11 @@
 -- The first character tells the kind.
-use Rattle.std.proofs.Common.{◌≡◌, ◌≢◌, ℕ, zero, suc, ◌+◌, ◌-◌, ◌≤◌, ◌<◌, Bool, true, false, ◌&&◌, ◌||◌, not, List, [], ◌∷◌, length, take, drop, get_or, refl, sym, ap, ◌∙◌, subst, arith, eq-eqb, eqb-true, ◌==◌, ⊎_elim, ◌⊎◌, inl, inr}
-use Rattle.std.specs.List.{list_all, list_any, prefix_len}
+use Rattle.std.proofs.Common.{◌≡◌, ◌≢◌, ℕ, zero, suc, ◌≤◌, ◌<◌, Bool, true, false, ◌&&◌, ◌||◌, not, [], ◌∷◌, get_or, refl, sym, ap, ◌∙◌, subst, arith, eqb-true, ◌==◌, ⊎_elim, ◌⊎◌, inl, inr}
+use Rattle.std.specs.List.{list_all, list_any}
 use Rattle.std.specs.Str.{bytes_eq}
-use Rattle.std.proofs.lemmas.Bool.{and_parts, or_cases, both_ways, cases_Bool, and_from, cond_both, or_right, cases_lt, not-true, agree_below, agree_below_at}
+use Rattle.std.proofs.lemmas.Bool.{and_parts, or_cases, both_ways, or_right, cases_lt, not-true, agree_below, agree_below_at}
 use Rattle.std.proofs.lemmas.Bool.Decides.{nat_tests}
 use Rattle.std.proofs.lemmas.Slice.Eq.{bytes_eq-Decides}
-use Rattle.unicode_ident.specs.Ident.{is_xid_start, is_xid_continue}
+use Rattle.unicode_ident.specs.Ident.{is_xid_continue}
 use Rattle.unicode_ident.proofs.Computing.{unicode_ident}
 use Rattle.unicode_ident.proofs.IdentLemmas.{is_xid_start-is_xid_continue}
 use Rattle.py_lexeme.specs.declared.scan.Shape.{Shape}
@@ -16,7 +16,7 @@ use Rattle.py_lexeme.specs.Identifiers.{starts_identifier, keywords, is_keyword}
 use Rattle.py_lexeme.specs.Strings.{begins_string, prefix_of, is_prefix}
 use Rattle.py_lexeme.specs.Operators.{operators}
 use Rattle.py_lexeme.specs.Faults.{begins_number}
-use Rattle.py_lexeme.specs.Scan.{shape_from, shape_at}
+use Rattle.py_lexeme.specs.Scan.{shape_from}
 use Rattle.py_lexeme.proofs.Shapes.{IsShaped}
 use Rattle.py_lexeme.proofs.Runs.{any_all}
 

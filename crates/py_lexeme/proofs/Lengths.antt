@@ -1,9 +1,7 @@
 -- How long what is found may be.
-use Rattle.std.proofs.Common.{◌≡◌, ℕ, zero, suc, ◌+◌, ◌-◌, ◌≤◌, ◌<◌, Bool, true, false, not, ◌&&◌, ◌||◌, ◌==◌, max, cond, List, [], ◌∷◌, length, take, drop, ◌≢◌, slice_index, if◌then◌else◌, refl, sym, ap, ◌∙◌, subst, arith, ⊎_elim, ◌⊎◌, inl, inr}
-use Rattle.std.proofs.lemmas.Bool.{cond_both, cond-false, cases_eq, eq-eqb, eqb-true, ne_eqb, and_parts, and_from, both_ways, false_from_ne_true, cases_lt, not-true, and_right, eqb-false, cases_Bool, cond-true}
-use Rattle.std.proofs.lemmas.Slice.Eq.{bytes_eq-Decides}
-use Rattle.std.proofs.lemmas.List.{length-take-le, length-drop, drop-take}
-use Rattle.std.proofs.lemmas.Grind.{common_steps}
+use Rattle.std.proofs.Common.{◌≡◌, ℕ, ◌+◌, ◌≤◌, Bool, true, false, not, ◌&&◌, ◌==◌, List, [], ◌∷◌, length, drop, ◌≢◌, slice_index, refl, arith}
+use Rattle.std.proofs.lemmas.Bool.{cond_both, and_parts, both_ways, eqb-false}
+use Rattle.std.proofs.lemmas.List.{length-drop}
 use Rattle.py_lexeme.specs.Characters.{Text, begins_with, ends_line}
 use Rattle.py_lexeme.specs.Scan.{further, close, longest_of, is_single}
 

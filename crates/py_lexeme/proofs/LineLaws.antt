@@ -1,9 +1,9 @@
 -- Blanks, line ends, comments, joins and identifiers: what the scanner finds is one, and the longest.
-use Rattle.std.proofs.Common.{◌≡◌, ◌≢◌, ℕ, zero, suc, ◌+◌, ◌-◌, ◌≤◌, ◌<◌, min, Bool, true, false, ◌&&◌, ◌||◌, not, List, [], ◌∷◌, length, take, drop, get_or, slice_index, refl, sym, ap, ◌∙◌, subst, arith, eqb-true, ◌==◌, ⊎_elim, ◌⊎◌, inl, inr, add-zero, MatchResult, Ok, Err}
+use Rattle.std.proofs.Common.{◌≡◌, ℕ, zero, suc, ◌+◌, ◌≤◌, ◌<◌, Bool, true, ◌&&◌, [], ◌∷◌, length, take, drop, refl, sym, ◌∙◌, subst, arith, eqb-true, ◌==◌, ⊎_elim}
 use Rattle.std.specs.List.{prefix_len, list_all}
-use Rattle.std.proofs.lemmas.Bool.{and_parts, or_cases, or_parts, both_ways, cases_Bool, and_from, cond_both, cases_lt, cases_order, false_from_ne_true, eqb-false, not-false, not-true}
-use Rattle.std.proofs.lemmas.List.Sums.{prefix_len-le-length, prefix_len_passes}
-use Rattle.std.proofs.lemmas.List.{get_or-take, get_or-drop, length-take-le, length-drop, take-take, drop-take}
+use Rattle.std.proofs.lemmas.Bool.{and_parts, both_ways, and_from, cond_both, cases_order}
+use Rattle.std.proofs.lemmas.List.Sums.{prefix_len-le-length}
+use Rattle.std.proofs.lemmas.List.{length-take-le}
 use Rattle.unicode_ident.specs.Ident.{is_xid_continue}
 use Rattle.py_lexeme.specs.Characters.{Text, ends_line, is_on_line, is_run}
 use Rattle.py_lexeme.specs.Lines.{is_line_end, is_comment, is_join}

@@ -1,7 +1,7 @@
 -- One text matches at a place, and it is the one that the scanner finds.
-use Rattle.std.proofs.Common.{◌≡◌, ◌≢◌, ℕ, zero, suc, ◌+◌, ◌-◌, ◌^◌, ◌≤◌, ◌<◌, Bool, true, false, ◌&&◌, ◌||◌, not, List, [], ◌∷◌, length, take, drop, get_or, slice_index, refl, sym, ap, ◌∙◌, subst, arith, eqb-true, ◌==◌, ⊎_elim, ◌⊎◌, inl, inr, add-zero, MatchResult, Result, Ok, Err}
-use Rattle.std.specs.List.{prefix_len, list_all}
-use Rattle.std.proofs.lemmas.Bool.{and_parts, or_cases, or_parts, both_ways, cases_Bool, and_from, cond_both, cases_lt, cases_order, false_from_ne_true, eqb-false, not-false, not-true}
+use Rattle.std.proofs.Common.{◌≡◌, ◌≢◌, ℕ, zero, suc, ◌≤◌, ◌<◌, Bool, true, false, ◌&&◌, ◌||◌, not, [], ◌∷◌, length, take, drop, get_or, slice_index, refl, sym, ap, ◌∙◌, subst, arith, eqb-true, ◌==◌, ⊎_elim, inl, inr, add-zero, MatchResult, Result, Err}
+use Rattle.std.specs.List.{list_all}
+use Rattle.std.proofs.lemmas.Bool.{and_parts, or_cases, or_parts, both_ways, and_from, cond_both, cases_lt, cases_order, eqb-false, not-false, not-true}
 use Rattle.std.proofs.lemmas.List.Sums.{prefix_len-le-length}
 use Rattle.std.proofs.lemmas.List.{get_or-drop, length-take-le}
 use Rattle.unicode_ident.specs.Ident.{is_xid_continue}
@@ -10,13 +10,13 @@ use Rattle.py_lexeme.specs.declared.piece.Kind.TheVariants.{Blank, LineEnd, Comm
 use Rattle.py_lexeme.specs.declared.piece.Piece.{Piece}
 use Rattle.py_lexeme.specs.declared.piece.Stop.{Stop}
 use Rattle.py_lexeme.specs.declared.scan.Shape.{Shape}
-use Rattle.py_lexeme.specs.declared.scan.Shape.TheVariants.{Word, Literal}
+use Rattle.py_lexeme.specs.declared.scan.Shape.TheVariants.{Word}
 use Rattle.py_lexeme.specs.Characters.{Text, is_quote, is_letter, is_ascii}
-use Rattle.py_lexeme.specs.Identifiers.{starts_identifier, is_identifier, is_keyword}
-use Rattle.py_lexeme.specs.Strings.{is_string, is_prefix, prefix_of, begins_string}
+use Rattle.py_lexeme.specs.Identifiers.{starts_identifier, is_identifier}
+use Rattle.py_lexeme.specs.Strings.{is_string, is_prefix, prefix_of}
 use Rattle.py_lexeme.specs.Pieces.{IsOf, may_precede, is_legal, IsMatchAt, IsPieceAt}
-use Rattle.py_lexeme.specs.Faults.{cause_of, flaw_of, IsUnmatched, IsIllegal, IsFaulty}
-use Rattle.py_lexeme.specs.Scan.{shape_at, len_of, kind_of, judge, scan}
+use Rattle.py_lexeme.specs.Faults.{cause_of, flaw_of, IsFaulty}
+use Rattle.py_lexeme.specs.Scan.{shape_at, kind_of, judge, scan}
 use Rattle.py_lexeme.proofs.Runs.{run_passes}
 use Rattle.py_lexeme.proofs.Shapes.{IsShaped, shape_of, shaped, of_its_kind, only_kind}
 use Rattle.py_lexeme.proofs.StringFronts.{StringFront, string_front}

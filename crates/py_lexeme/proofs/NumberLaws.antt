@@ -1,12 +1,12 @@
 -- Numbers in any base: what the scanner finds is one, and the longest, and how a number begins.
-use Rattle.std.proofs.Common.{◌≡◌, ◌≢◌, ℕ, zero, suc, ◌+◌, ◌-◌, ◌≤◌, ◌<◌, max, Bool, true, false, ◌&&◌, ◌||◌, not, List, [], ◌∷◌, ◌++◌, length, take, drop, slice_index, refl, sym, ap, ◌∙◌, subst, arith, eqb-true, ◌==◌, ⊎_elim, ◌⊎◌, inl, inr, if◌then◌else◌}
+use Rattle.std.proofs.Common.{◌≡◌, ℕ, zero, suc, ◌+◌, ◌≤◌, ◌<◌, max, Bool, true, false, ◌&&◌, [], ◌∷◌, ◌++◌, length, take, refl, sym, subst, arith, eqb-true, ◌==◌, ⊎_elim, ◌⊎◌, inl, inr}
 use Rattle.std.proofs.lemmas.Bool.{and_parts, both_ways, and_from, cond_both, cases_lt, and_right, or_cases, or_left, or_right}
 use Rattle.std.proofs.lemmas.List.{length-take-le}
 use Rattle.py_lexeme.specs.Characters.{Text, is_digit, is_either, is_hexadecimal, is_octal, is_binary}
-use Rattle.py_lexeme.specs.Numbers.{is_digits, is_led, is_based, is_maybe_digits, is_fraction, IsDecimal, IsNumber}
+use Rattle.py_lexeme.specs.Numbers.{is_digits, is_led, is_based, is_maybe_digits, is_fraction, IsNumber}
 use Rattle.py_lexeme.specs.Numbers.IsNumber.{hexadecimal, octal, binary, decimal}
 use Rattle.py_lexeme.specs.Faults.{begins_number}
-use Rattle.py_lexeme.specs.Scan.{digits, further, led, based, decimal as decimal_len, number}
+use Rattle.py_lexeme.specs.Scan.{digits, further, led, based, number}
 use Rattle.py_lexeme.proofs.Digits.{digits_fits, digits_found, Digits}
 use Rattle.py_lexeme.proofs.Decimals.{digits_head, decimal_fits, decimal_found, Tested}
 use Rattle.py_lexeme.proofs.Strings.{further_is, further_some}

@@ -1,20 +1,19 @@
 -- The shape that the first characters tell, and its longest text: what else matches at the front is shorter, or a string's prefix.
-use Rattle.std.proofs.Common.{◌≡◌, ◌≢◌, ℕ, zero, suc, ◌+◌, ◌-◌, ◌≤◌, ◌<◌, min, Bool, true, false, ◌&&◌, ◌||◌, not, List, [], ◌∷◌, length, take, drop, get_or, slice_index, refl, sym, ap, ◌∙◌, subst, arith, eqb-true, ◌==◌, ⊎_elim, ◌⊎◌, inl, inr}
+use Rattle.std.proofs.Common.{◌≡◌, ◌≢◌, ℕ, zero, suc, ◌≤◌, ◌<◌, true, false, ◌&&◌, ◌||◌, [], ◌∷◌, length, take, slice_index, refl, sym, ◌∙◌, subst, arith, ◌==◌, ⊎_elim, ◌⊎◌, inl, inr}
 use Rattle.std.specs.List.{prefix_len}
 use Rattle.std.proofs.lemmas.Bool.{and_parts, and_from, or_cases, or_parts, both_ways, cases_Bool, cond_both, cases_lt, false_from_ne_true}
 use Rattle.std.proofs.lemmas.List.Sums.{prefix_len_passes}
 use Rattle.unicode_ident.specs.Ident.{is_xid_continue}
-use Rattle.unicode_ident.proofs.Computing.{unicode_ident}
 use Rattle.py_lexeme.specs.declared.scan.Shape.{Shape}
 use Rattle.py_lexeme.specs.declared.scan.Shape.TheVariants.{Blanks, Ending, Remark, Joint, Word, Numeral, Literal, Symbol}
 use Rattle.py_lexeme.specs.Characters.{Text, is_blank, ends_line, is_on_line, is_quote, is_letter, is_digit}
 use Rattle.py_lexeme.specs.Lines.{is_comment}
 use Rattle.py_lexeme.specs.Identifiers.{starts_identifier, is_identifier}
 use Rattle.py_lexeme.specs.Numbers.{IsNumber}
-use Rattle.py_lexeme.specs.Strings.{is_string, is_prefix, prefix_of, begins_string}
+use Rattle.py_lexeme.specs.Strings.{prefix_of, begins_string}
 use Rattle.py_lexeme.specs.Operators.{operators, is_operator}
 use Rattle.py_lexeme.specs.Faults.{begins_number}
-use Rattle.py_lexeme.specs.Scan.{string, number, shape_from, shape_at, len_of}
+use Rattle.py_lexeme.specs.Scan.{number, shape_from, shape_at, len_of}
 use Rattle.py_lexeme.proofs.OperatorLaws.{operator_fits, operator_found}
 use Rattle.py_lexeme.proofs.Shapes.{IsShaped}
 use Rattle.py_lexeme.proofs.LineLaws.{run_fits, run_found, line_end_fits, line_end_found, hash_is_on_line, comment_fits, head_run, join_fits, join_found, name_fits}

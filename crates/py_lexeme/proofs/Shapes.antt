@@ -1,6 +1,6 @@
 -- The kinds by their shapes: what the first characters tell, before a word or a string is looked at whole.
-use Rattle.std.proofs.Common.{◌≡◌, ◌≢◌, ℕ, Bool, true, false, List, [], ◌∷◌, refl, sym, ap, ◌∙◌, subst, ⊎_elim, ◌⊎◌}
-use Rattle.std.proofs.lemmas.Bool.{cases_Bool, both_ways}
+use Rattle.std.proofs.Common.{◌≡◌, true, false, refl, ⊎_elim}
+use Rattle.std.proofs.lemmas.Bool.{cases_Bool}
 use Rattle.py_lexeme.specs.declared.piece.Kind.{Kind}
 use Rattle.py_lexeme.specs.declared.piece.Kind.TheVariants.{Blank, LineEnd, Comment, Join, Name, Keyword, Number, Str, FStr, Op}
 use Rattle.py_lexeme.specs.declared.scan.Shape.{Shape}

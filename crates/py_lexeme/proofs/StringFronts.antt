@@ -1,10 +1,9 @@
 -- Strings with their prefix: what the scanner finds is one, and the longest.
-use Rattle.std.proofs.Common.{◌≡◌, ◌≢◌, ℕ, zero, suc, ◌+◌, ◌-◌, ◌≤◌, ◌<◌, min, Bool, true, false, ◌&&◌, ◌||◌, not, List, [], ◌∷◌, length, take, drop, get_or, slice_index, refl, sym, ap, ◌∙◌, subst, arith, eqb-true, ◌==◌, ⊎_elim, ◌⊎◌, inl, inr, add-zero, MatchResult, Ok, Err}
-use Rattle.std.specs.List.{prefix_len, list_all}
-use Rattle.std.proofs.lemmas.Bool.{and_parts, or_cases, or_parts, both_ways, cases_Bool, and_from, cond_both, cases_lt, cases_order, false_from_ne_true, eqb-false, not-false, not-true}
-use Rattle.std.proofs.lemmas.List.Sums.{prefix_len-le-length, prefix_len_passes}
+use Rattle.std.proofs.Common.{◌≡◌, ℕ, zero, suc, ◌+◌, ◌-◌, ◌≤◌, ◌<◌, min, Bool, true, false, ◌&&◌, [], ◌∷◌, length, take, drop, get_or, refl, sym, ap, ◌∙◌, subst, arith, ⊎_elim, add-zero}
+use Rattle.std.specs.List.{prefix_len}
+use Rattle.std.proofs.lemmas.Bool.{and_parts, both_ways, cases_Bool, and_from, cases_lt}
+use Rattle.std.proofs.lemmas.List.Sums.{prefix_len-le-length}
 use Rattle.std.proofs.lemmas.List.{get_or-take, get_or-drop, length-take-le, length-drop, take-take, drop-take}
-use Rattle.unicode_ident.specs.Ident.{is_xid_continue}
 use Rattle.py_lexeme.specs.Characters.{Text, is_quote, is_letter}
 use Rattle.py_lexeme.specs.Strings.{is_string, is_prefix, prefix_of, is_quoted, begins_string}
 use Rattle.py_lexeme.specs.Scan.{further, quoted, string}

@@ -1,13 +1,12 @@
 -- Quotes that close.
-use Rattle.std.proofs.Common.{◌≡◌, ℕ, zero, suc, ◌+◌, ◌-◌, ◌≤◌, ◌<◌, Bool, true, false, not, ◌&&◌, ◌||◌, ◌==◌, max, cond, List, [], ◌∷◌, length, take, drop, ◌≢◌, slice_index, if◌then◌else◌, refl, sym, ap, ◌∙◌, subst, arith, ⊎_elim, ◌⊎◌, inl, inr}
-use Rattle.std.proofs.lemmas.Bool.{cond_both, cond-false, cases_eq, eq-eqb, eqb-true, ne_eqb, and_parts, and_from, both_ways, false_from_ne_true, cases_lt, not-true, and_right, eqb-false, cases_Bool, cond-true}
+use Rattle.std.proofs.Common.{◌≡◌, ℕ, zero, suc, ◌+◌, ◌-◌, ◌≤◌, ◌<◌, Bool, true, false, not, ◌&&◌, ◌||◌, ◌==◌, [], ◌∷◌, length, take, drop, ◌≢◌, slice_index, if◌then◌else◌, refl, sym, ap, ◌∙◌, subst, arith, ⊎_elim, ◌⊎◌, inl, inr}
+use Rattle.std.proofs.lemmas.Bool.{cond_both, cond-false, eq-eqb, eqb-true, ne_eqb, and_parts, and_from, both_ways, false_from_ne_true, cases_lt, not-true, and_right, eqb-false, cases_Bool}
 use Rattle.std.proofs.lemmas.Slice.Eq.{bytes_eq-Decides}
 use Rattle.std.proofs.lemmas.List.{length-take-le, length-drop, drop-take, get_or-take}
-use Rattle.std.proofs.lemmas.Grind.{common_steps}
-use Rattle.py_lexeme.proofs.Lengths.{begins_with_length, close_within, longest_within}
+use Rattle.py_lexeme.proofs.Lengths.{begins_with_length, close_within}
 use Rattle.py_lexeme.specs.Characters.{Text, begins_with, ends_line, is_quote}
 use Rattle.py_lexeme.specs.Strings.{closes, quote_at, is_quoted}
-use Rattle.py_lexeme.specs.Scan.{further, close, longest_of, quoted}
+use Rattle.py_lexeme.specs.Scan.{further, close, quoted}
 
 -- ---- begins_with and fronts
 

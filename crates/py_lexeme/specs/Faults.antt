@@ -1,5 +1,5 @@
 -- The first lexical fault of a text: its cause and its place.
-use Rattle.std.specs.Prelude.{◌≡◌, ℕ, ◌+◌, ◌<◌, Bool, true, false, ◌&&◌, ◌||◌, ◌==◌, if◌then◌else◌, List, [], ◌∷◌, length, take, slice_index, ◌⊎◌, Option, Some, None}
+use Rattle.std.specs.Prelude.{◌≡◌, ◌+◌, ◌<◌, Bool, false, ◌&&◌, ◌||◌, ◌==◌, if◌then◌else◌, List, [], length, take, slice_index, ◌⊎◌, Option, Some, None}
 use Rattle.std.specs.List.{prefix_len}
 use Rattle.py_lexeme.specs.declared.piece.Kind.{Kind}
 use Rattle.py_lexeme.specs.declared.piece.Kind.TheVariants.{Number}

@@ -1,5 +1,5 @@
 -- What ends a physical line, what joins two, and comments.
-use Rattle.std.specs.Prelude.{Bool, false, ◌&&◌, ◌==◌, List, [], ◌∷◌}
+use Rattle.std.specs.Prelude.{Bool, false, ◌&&◌, ◌==◌, [], ◌∷◌}
 use Rattle.std.specs.List.{list_all}
 use Rattle.py_lexeme.specs.Characters.{Text, ends_line, is_on_line}
 

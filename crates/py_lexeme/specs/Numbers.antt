@@ -1,5 +1,5 @@
 -- Numeric literals: integers in four bases, floats and imaginaries, as Python's reference has them under "Numeric literals".
-use Rattle.std.specs.Prelude.{◌≡◌, ℕ, ◌<◌, Bool, true, false, not, ◌&&◌, ◌||◌, ◌==◌, if◌then◌else◌, List, [], ◌∷◌, ◌++◌, length, slice_index, ◌⊎◌}
+use Rattle.std.specs.Prelude.{◌≡◌, ℕ, ◌<◌, Bool, true, false, not, ◌&&◌, ◌||◌, ◌==◌, if◌then◌else◌, [], ◌∷◌, ◌++◌, length, slice_index, ◌⊎◌}
 use Rattle.std.specs.List.{list_all}
 use Rattle.py_lexeme.specs.Characters.{Text, is_either, is_digit, is_hexadecimal, is_octal, is_binary, is_digit_or_bar, is_zero_or_bar}
 

@@ -1,5 +1,5 @@
 -- How a text is cut: each piece is the longest text of any kind at its place, and blanks, line ends, comments and joins are pieces too.
-use Rattle.std.specs.Prelude.{◌≡◌, ◌≢◌, ℕ, ◌+◌, ◌<◌, ◌≤◌, Bool, true, false, not, ◌&&◌, ◌==◌, List, [], ◌∷◌, length, take, drop, slice_index}
+use Rattle.std.specs.Prelude.{◌≡◌, ℕ, ◌+◌, ◌<◌, ◌≤◌, Bool, true, false, not, ◌&&◌, ◌==◌, List, [], ◌∷◌, length, take, drop, slice_index}
 use Rattle.py_lexeme.specs.declared.piece.Kind.{Kind}
 use Rattle.py_lexeme.specs.declared.piece.Kind.TheVariants.{Blank, LineEnd, Comment, Join, Name, Keyword, Number, Str, FStr, Op}
 use Rattle.py_lexeme.specs.declared.piece.Piece.{Piece}

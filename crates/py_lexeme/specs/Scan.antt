@@ -1,5 +1,5 @@
 -- The piece at the front as the scanner finds it, by the first characters. Only proofs stand on this file: what a piece is stands in Pieces.
-use Rattle.std.specs.Prelude.{◌≡◌, ℕ, zero, suc, ◌+◌, Bool, true, false, not, ◌&&◌, ◌||◌, ◌==◌, nat_lt, max, if◌then◌else◌, List, [], ◌∷◌, length, take, drop, slice_index, Result, Ok, Err}
+use Rattle.std.specs.Prelude.{ℕ, ◌+◌, Bool, true, false, not, ◌&&◌, ◌||◌, ◌==◌, nat_lt, max, if◌then◌else◌, List, [], ◌∷◌, length, take, drop, slice_index, Result, Ok, Err}
 use Rattle.std.specs.List.{prefix_len}
 use Rattle.unicode_ident.specs.Ident.{is_xid_continue}
 use Rattle.py_lexeme.specs.declared.piece.Kind.{Kind}

@@ -1,5 +1,5 @@
 -- String and byte literals, with and without `f`, as Python 3.11's reference has them under "String and Bytes literals".
-use Rattle.std.specs.Prelude.{ℕ, Bool, true, false, not, ◌&&◌, ◌||◌, ◌==◌, if◌then◌else◌, List, [], ◌∷◌, length, take, drop, slice_index}
+use Rattle.std.specs.Prelude.{ℕ, Bool, true, false, not, ◌&&◌, ◌||◌, ◌==◌, if◌then◌else◌, [], ◌∷◌, length, take, drop, slice_index}
 use Rattle.std.specs.Str.{bytes_eq}
 use Rattle.std.specs.List.{list_all, list_any, prefix_len}
 use Rattle.py_lexeme.specs.Characters.{Text, ends_line, is_quote, is_letter, is_either, is_ascii, begins_with}

@@ -1,5 +1,5 @@
 -- Identifiers are compared by their normal form NFKC, as Python's reference says under "Identifiers and keywords".
-use Rattle.std.specs.Prelude.{◌≡◌, ℕ, List, Option, Some, None, chars, encode_utf8_all}
+use Rattle.std.specs.Prelude.{◌≡◌, ℕ, List, chars, encode_utf8_all}
 use Rattle.std.specs.Str.{IsAscii, IsNotAscii}
 use Rattle.unicode_normalization.specs.Forms.{nfkc}
 

@@ -1,5 +1,4 @@
-use Rattle.std.proofs.Common.{arith, length, ap, ◌∙◌, ◌≡◌, ◌≤◌, [], drop, length-drop, is_ok, true, not, ◌++◌, ◌∷◌}
-use Rattle.std.proofs.ResultArms.{chosen}
+use Rattle.std.proofs.Common.{arith, length, ap, ◌≡◌, [], drop, length-drop, ◌++◌, ◌∷◌}
 use Rattle.py_lexeme.proofs.CutLaws.{Cuts-push, piece_some}
 use Rattle.py_lexeme.proofs.Matches.{fault_within}
 use Rattle.py_lexeme.proofs.cutting.cut_up.Goals as goal
