@@ -5,3 +5,4 @@ pub mod PartLaws
 pub mod CutLaws
 pub mod Outcomes
 pub mod ReadingLaws
+pub mod OrderLaws

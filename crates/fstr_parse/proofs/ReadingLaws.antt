@@ -1,12 +1,16 @@
 -- A text has one reading: its pieces, or its first fault.
-use Rattle.std.proofs.Common.{◌≡◌, ◌≢◌, ℕ, zero, suc, ◌+◌, ◌-◌, ◌≤◌, ◌<◌, ◌⊎◌, inl, inr, Bool, List, [], ◌∷◌, ◌++◌, length, drop, refl, sym, ap, ◌∙◌, subst, arith, Result, Ok, Err}
+use Rattle.std.proofs.Common.{◌≡◌, ◌≢◌, ℕ, zero, suc, ◌+◌, ◌-◌, ◌≤◌, ◌<◌, ◌⊎◌, inl, inr, Bool, List, [], ◌∷◌, ◌++◌, length, drop, refl, sym, ap, ◌∙◌, subst, arith, ⊎_elim}
+use Rattle.std.proofs.lemmas.List.{length-drop}
 use Rattle.fstr_parse.specs.Bytes.{Text}
+use Rattle.fstr_parse.specs.Rows.{Leads}
+use Rattle.fstr_parse.specs.Expressions.{IsHalted, step_len, brackets_behind, opened_len, equals_len}
+use Rattle.fstr_parse.specs.Fields.{IsBadField, IsMisconverted, behind_equals, right_len}
 use Rattle.fstr_parse.specs.Parts.{IsPart, IsFaultAt, IsOver, Cuts, part_len, depth_behind}
 use Rattle.fstr_parse.specs.Pieces.{pieces_of, IsCut, IsFirstFault}
-use Rattle.fstr_parse.specs.Answers.{GivesOnly, FaultsOnly}
 use Rattle.fstr_parse.specs.declared.part.Part.{Part}
 use Rattle.fstr_parse.specs.declared.piece.Piece.{Piece}
 use Rattle.fstr_parse.specs.declared.fault.FieldFault.{FieldFault}
+use Rattle.fstr_parse.specs.declared.fault.FieldFault.TheVariants.{Backslash, Comment, Unclosed, EmptyField, BadConversion, LoneBrace, TooNested, Memory}
 use Rattle.fstr_parse.proofs.Outcomes.{Outcome, Over, Stands, Faulty, Gives, Gives-unique}
 
 -- no part
@@ -88,3 +92,69 @@ IsFirstFault-unique raw text place place' fault fault' a b =
     let stops : a.stop ≡ b.stop = cc in
     let faults : fault ≡ fault' = cc in
     (omega (arith, ap length stops, a.here, b.here), faults)
+
+-- ---- what the code comes to
+
+leads_shorter : (len behind : ℕ → Text → ℕ) (steps level : ℕ) (text : Text) (level' : ℕ) (rest : Text) → Leads len behind steps level text level' rest → length rest ≤ length text
+leads_shorter len behind zero level text level' rest row = omega (arith, ap length row.1)
+leads_shorter len behind (suc steps) level text level' rest row =
+    let after = leads_shorter len behind steps (behind level text) (drop (len level text) text) level' rest row.1 in
+    omega (arith, length-drop (len level text) text)
+
+halted_shorter : (text stop : Text) → IsHalted text stop → length stop ≤ length text
+halted_shorter text stop halted =
+    let row = leads_shorter step_len brackets_behind halted.steps 0 text halted.brackets halted.rest halted.row in
+    omega (arith, ap length halted.here, length-drop (opened_len halted.rest) halted.rest)
+
+misconverted_shorter : (text stop : Text) → IsMisconverted text stop → length stop ≤ length text
+misconverted_shorter text stop bad =
+    let after = drop bad.len text in
+    let behind = behind_equals bad.len text in
+    omega (arith, ap length bad.here, length-drop (right_len behind) behind, length-drop (equals_len after) after, length-drop bad.len text)
+
+bad_shorter : (text stop : Text) (fault : FieldFault) → IsBadField text stop fault → length stop ≤ length text
+bad_shorter text stop Backslash bad = halted_shorter text stop bad.0
+bad_shorter text stop Comment bad = halted_shorter text stop bad.0
+bad_shorter text stop Unclosed bad = omega (arith, ap length bad.1)
+bad_shorter text stop EmptyField bad = omega (arith, ap length bad.here, length-drop bad.len text)
+bad_shorter text stop BadConversion bad = misconverted_shorter text stop bad.0
+bad_shorter text stop LoneBrace bad = absurd bad
+bad_shorter text stop TooNested bad = absurd bad
+bad_shorter text stop Memory bad = absurd bad
+
+field_shorter : (text stop : Text) (fault : FieldFault) → IsBadField (drop 1 text) stop fault → length stop ≤ length text
+field_shorter text stop fault bad = omega (arith, bad_shorter (drop 1 text) stop fault bad, length-drop 1 text)
+
+-- a fault stands in what is left of the text
+fault_shorter : (raw : Bool) (depth : ℕ) (text stop : Text) (fault : FieldFault) → IsFaultAt raw depth text stop fault → length stop ≤ length text
+fault_shorter raw depth text stop Backslash is = field_shorter text stop Backslash is.1
+fault_shorter raw depth text stop Comment is = field_shorter text stop Comment is.1
+fault_shorter raw depth text stop Unclosed is =
+    ⊎_elim (λ ended. omega (arith, ap length ended.2)) (λ inner. field_shorter text stop Unclosed inner.1) is
+fault_shorter raw depth text stop EmptyField is = field_shorter text stop EmptyField is.1
+fault_shorter raw depth text stop BadConversion is = field_shorter text stop BadConversion is.1
+fault_shorter raw depth text stop LoneBrace is = omega (arith, ap length is.3)
+fault_shorter raw depth text stop TooNested is = omega (arith, ap length is.2)
+fault_shorter raw depth text stop Memory is = absurd is
+
+-- parts as far as the end
+pub whole_cut : (raw : Bool) (literal text : Text) (front : List Part) (depth : ℕ) (rest : Text) (pieces : List Piece) → text ≡ literal → Cuts raw 0 text front depth rest → IsOver depth rest → pieces ≡ pieces_of 0 0 front → IsCut raw literal pieces
+whole_cut raw literal text front depth rest pieces same cut over are = record {
+  parts = front;
+  cut = subst (λ t. Cuts raw 0 t front 0 []) same (subst (λ t. Cuts raw 0 text front 0 t) over.1 (subst (λ d. Cuts raw 0 text front d rest) over.0 cut));
+  are = are;
+}
+
+-- parts as far as a fault
+pub first_fault : (raw : Bool) (literal text : Text) (front : List Part) (depth : ℕ) (rest stop : Text) (fault : FieldFault) → text ≡ literal → Cuts raw 0 text front depth rest → length rest ≤ length text → IsFaultAt raw depth rest stop fault → IsFirstFault raw literal (length literal - length stop) fault
+first_fault raw literal text front depth rest stop fault same cut within stands =
+    let shorter = fault_shorter raw depth rest stop fault stands in
+    record {
+      front = front;
+      depth = depth;
+      rest = rest;
+      stop = stop;
+      cut = subst (λ t. Cuts raw 0 t front depth rest) same cut;
+      stands = stands;
+      here = omega (arith, ap length same);
+    }
