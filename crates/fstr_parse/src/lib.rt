@@ -13,3 +13,6 @@ mod piece;
 pub use cut::pieces;
 pub use fault::FieldFault;
 pub use piece::{Piece, Pieces};
+
+#[cfg(test)]
+mod tests;
