@@ -11,6 +11,7 @@ use Rattle.fstr_parse.specs.declared.field.Field.{Field}
 use Rattle.fstr_parse.specs.declared.part.Part.{Part}
 use Rattle.fstr_parse.specs.declared.part.Part.TheVariants.{Literal, Head, FormatEnd}
 use Rattle.fstr_parse.specs.declared.piece.Piece.{Piece}
+use Rattle.fstr_parse.proofs.UnitLaws.{row_of_literal}
 use Rattle.fstr_parse.proofs.ExpressionLaws.{byte_in}
 
 closing_some : (formatted : Bool) → 0 < closing_of formatted
@@ -28,7 +29,7 @@ field_within text field is =
 
 -- a part is not empty, and lies within the text
 pub part_within : (raw : Bool) (depth : ℕ) (text : Text) (part : Part) → IsPart raw depth text part → (0 < part_len part) × (part_len part ≤ length text)
-part_within raw depth text (Literal len) is = (is.0, is.1.within)
+part_within raw depth text (Literal len) is = (is.0, (row_of_literal raw depth text len is.1).within)
 part_within raw depth text (Head field) is =
     let some : 0 < length text = byte_in text 0 123 (omega arith) is.0.brace in
     let within = field_within (drop 1 text) field is.1 in

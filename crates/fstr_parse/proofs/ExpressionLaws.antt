@@ -4,7 +4,8 @@ use Rattle.std.proofs.lemmas.Bool.{and_parts, or_cases, both_ways, cond_both, co
 use Rattle.std.proofs.lemmas.Bool.Decides.{nat_tests}
 use Rattle.std.proofs.lemmas.List.{length-drop, drop-drop, drop_all}
 use Rattle.fstr_parse.specs.Bytes.{Text, byte, is_quote, is_opening, is_closing}
-use Rattle.fstr_parse.specs.Expressions.{quotes_len, are_quotes, body_len, opened_len, string_len, step_len, ends_at, brackets_behind, is_end, is_mark}
+use Rattle.fstr_parse.specs.Expressions.{quotes_len, are_quotes, ends_at, brackets_behind, is_end, is_mark, equals_len, inside, Halts}
+use Rattle.fstr_parse.specs.Scan.{body_len, opened_len, string_len, step_len}
 use Rattle.fstr_parse.proofs.RowLaws.{byte_within}
 
 -- a byte above 0 stands within the text
@@ -85,27 +86,31 @@ not_closed text none =
     let sum : opened_len text + quotes_len text ≡ 0 = sym (cond-true closing (opened_len text + quotes_len text) 0 closed) ∙ none in
     ⊎_elim (λ is. absurd (omega arith)) (λ is. absurd (omega arith)) count)
 
--- the end of the text, a backslash or a `#` stands here
-abbrev pub Halts : Text → Type 0
-Halts stop = (stop ≡ []) ⊎ (byte stop 0 ≡ 92 ⊎ byte stop 0 ≡ 35)
-
 halts_at_byte : (rest : Text) (b : ℕ) → is_quote b ≡ false → (b ≡ 92) ⊎ (b ≡ 35) → byte rest 0 ≡ b → Halts (drop (opened_len rest) rest)
 halts_at_byte rest b plain which e =
     let none : opened_len rest ≡ 0 = opened_none rest (rw e plain) in
     rw none (inr (⊎_elim (λ is. inl (e ∙ is)) (λ is. inr (e ∙ is)) which))
 
-halts_in_string : (rest : Text) → is_quote (byte rest 0) ≡ true → string_len rest ≡ 0 → Halts (drop (opened_len rest) rest)
-halts_in_string rest quote none =
+-- an opened string is its quotes and its body
+pub opened_far : (text : Text) → is_quote (byte text 0) ≡ true → drop (opened_len text) text ≡ drop (body_len (byte text 0) (quotes_len text) (inside text)) (inside text)
+opened_far text quote =
+    ap (λ n. drop n text) (opened_some text quote) ∙ sym (drop-drop (body_len (byte text 0) (quotes_len text) (inside text)) (quotes_len text) text)
+
+-- a string that is not closed comes to the text's end or a backslash
+pub opened_halts : (rest : Text) → is_quote (byte rest 0) ≡ true → string_len rest ≡ 0 → (drop (opened_len rest) rest ≡ []) ⊎ (byte (drop (opened_len rest) rest) 0 ≡ 92)
+opened_halts rest quote none =
     let count = quotes_len rest in
-    let body = body_len (byte rest 0) count (drop count rest) in
-    let far : drop (opened_len rest) rest ≡ drop body (drop count rest) =
-    ap (λ n. drop n rest) (opened_some rest quote) ∙ sym (drop-drop body count rest) in
-    let open_still : are_quotes (byte rest 0) count (drop body (drop count rest)) ≡ false =
+    let body = body_len (byte rest 0) count (inside rest) in
+    let far = opened_far rest quote in
+    let open_still : are_quotes (byte rest 0) count (drop body (inside rest)) ≡ false =
     subst (λ stop. are_quotes (byte rest 0) count stop ≡ false) far (not_closed rest none) in
-    subst Halts (sym far)
+    subst (λ stop. (stop ≡ []) ⊎ (byte stop 0 ≡ 92)) (sym far)
     (⊎_elim inl
-    (⊎_elim (λ closed. absurd (both_ways _ open_still closed)) (λ backslash. inr (inl backslash)))
-    (body_stops (byte rest 0) count (drop count rest)))
+    (⊎_elim (λ closed. absurd (both_ways _ open_still closed)) (λ backslash. inr backslash))
+    (body_stops (byte rest 0) count (inside rest)))
+
+halts_in_string : (rest : Text) → is_quote (byte rest 0) ≡ true → string_len rest ≡ 0 → Halts (drop (opened_len rest) rest)
+halts_in_string rest quote none = ⊎_elim inl (λ backslash. inr (inl backslash)) (opened_halts rest quote none)
 
 -- an expression that halts and has not ended is at the text's end, a backslash or a `#`, or in a string that stops at the
 -- first or the second

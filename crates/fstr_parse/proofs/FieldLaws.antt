@@ -4,18 +4,20 @@ use Rattle.std.proofs.lemmas.Bool.{cond_both, eqb-true, eqb-false, eq-eqb, ne_eq
 use Rattle.std.proofs.lemmas.List.{length-drop, drop_all}
 use Rattle.std.specs.List.{prefix_len}
 use Rattle.fstr_parse.specs.Bytes.{Text, byte, is_blank, is_conversion}
-use Rattle.fstr_parse.specs.Expressions.{IsExpression, IsHalted, opened_len, equals_len, is_end, is_mark}
+use Rattle.fstr_parse.specs.Expressions.{IsExpression, IsHalted, Halts, equals_len, is_end, is_mark}
 use Rattle.fstr_parse.specs.Fields.{IsField, IsBadField, IsMisconverted, behind_equals, closing_of, right_len, conversion_len, conversion_of}
 use Rattle.fstr_parse.specs.Heads.{halt_fault, wrong_at, IsWrongConversion}
 use Rattle.fstr_parse.specs.declared.field.Field.{Field}
 use Rattle.fstr_parse.specs.declared.fault.FieldFault.{FieldFault}
 use Rattle.fstr_parse.specs.declared.fault.FieldFault.TheVariants.{Backslash, Comment, Unclosed, BadConversion}
-use Rattle.fstr_parse.proofs.ExpressionLaws.{halts_where, Halts, mark_closes}
+use Rattle.fstr_parse.proofs.ExpressionLaws.{halts_where, mark_closes}
+use Rattle.fstr_parse.proofs.StepLaws.{row_of_expression, row_of_halted}
 
 -- the fault where an expression halts
 pub halted_fault : (text stop : Text) → IsHalted text stop → IsBadField text stop (halt_fault stop)
 halted_fault text stop halted =
-    let where_it_is : Halts stop = subst Halts (sym halted.here) (halts_where halted.brackets halted.rest halted.halts halted.unended) in
+    let row = row_of_halted text stop halted in
+    let where_it_is : Halts stop = subst Halts (sym row.here) (halts_where row.brackets row.rest row.halts row.unended) in
     ⊎_elim
     (λ empty. let nothing : byte stop 0 ≡ 0 = ap (λ t. byte t 0) empty in
     subst (IsBadField text stop) (let e : Unclosed ≡ halt_fault stop = rw nothing refl in e) (inl halted, empty))
@@ -62,7 +64,7 @@ plain_field text expression equals closing is some equals_is closing_at other =
     let no_mark : (byte behind 0 == 33) ≡ false = ne_eqb (byte behind 0) 33 not_bang in
     let no_len : conversion_len behind ≡ 0 = ap (λ b. cond b 2 0) no_mark in
     let no_letter : conversion_of behind ≡ 0 = ap (λ b. cond b (byte behind 1) 0) no_mark in
-    let closes : byte behind 0 ≡ closing_of (byte behind 0 == 58) = closing_is (byte behind 0) (mark_closes behind is.ends not_bang) in
+    let closes : byte behind 0 ≡ closing_of (byte behind 0 == 58) = closing_is (byte behind 0) (mark_closes behind (row_of_expression text expression is).ends not_bang) in
     record {
       expression = is;
       some = some;

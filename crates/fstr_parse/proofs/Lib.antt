@@ -6,3 +6,6 @@ pub mod CutLaws
 pub mod Outcomes
 pub mod ReadingLaws
 pub mod OrderLaws
+pub mod JoinLaws
+pub mod UnitLaws
+pub mod StepLaws

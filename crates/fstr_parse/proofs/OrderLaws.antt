@@ -8,7 +8,8 @@ use Rattle.std.proofs.lemmas.List.Elements.{All-nil, All-cons, All-weaker, All-a
 use Rattle.std.proofs.lemmas.List.Kept.{AllPairs-cons}
 use Rattle.std.proofs.lemmas.Str.{IsCharBoundary-start, IsCharBoundary-end, IsCharBoundary-before_ascii, IsCharBoundary-after_ascii}
 use Rattle.fstr_parse.specs.Bytes.{Text, byte, is_brace, is_conversion}
-use Rattle.fstr_parse.specs.Literals.{unit_len, IsLiteral}
+use Rattle.fstr_parse.specs.Literals.{IsLiteral}
+use Rattle.fstr_parse.specs.Scan.{unit_len}
 use Rattle.fstr_parse.specs.Expressions.{IsExpression, is_end, is_mark, equals_len}
 use Rattle.fstr_parse.specs.Fields.{IsField, behind_equals, conversion_len, conversion_of, closing_of}
 use Rattle.fstr_parse.specs.Parts.{Opens, IsPart, Cuts, part_len, depth_behind}
@@ -19,6 +20,8 @@ use Rattle.fstr_parse.specs.declared.part.Part.TheVariants.{Literal, Head, Forma
 use Rattle.fstr_parse.specs.declared.piece.Piece.{Piece}
 use Rattle.fstr_parse.proofs.ExpressionLaws.{byte_in}
 use Rattle.fstr_parse.proofs.CutLaws.{field_within, part_within, depth_small}
+use Rattle.fstr_parse.proofs.UnitLaws.{row_of_literal}
+use Rattle.fstr_parse.proofs.StepLaws.{row_of_expression}
 use Rattle.fstr_parse.proofs.PartLaws.{brace_stands}
 
 -- an ASCII byte other than NUL stands here
@@ -72,9 +75,10 @@ brace_ascii text brace =
 literal_ends : (raw : Bool) (depth : ℕ) (text : Text) (place len : ℕ) → place ≤ length text → IsLiteral raw depth (drop place text) len → IsCharBoundary text (place + len)
 literal_ends raw depth text place len within literal =
     let size : length (drop place text) ≡ length text - place = length-drop place text in
-    let inside : place + len ≤ length text = omega (arith, literal.within) in
+    let row = row_of_literal raw depth (drop place text) len literal in
+    let inside : place + len ≤ length text = omega (arith, row.within) in
     let far : drop len (drop place text) ≡ drop (place + len) text = drop-drop len place text in
-    let none : unit_len raw depth (drop (place + len) text) ≡ 0 = subst (λ t. unit_len raw depth t ≡ 0) far literal.ends in
+    let none : unit_len raw depth (drop (place + len) text) ≡ 0 = subst (λ t. unit_len raw depth t ≡ 0) far row.ends in
     let left : length (drop (place + len) text) ≡ length text - (place + len) = length-drop (place + len) text in
     ⊎_elim
     (λ some. before_ascii text (place + len) inside (brace_ascii (drop (place + len) text) (brace_stands raw depth (drop (place + len) text) none some)))
@@ -147,7 +151,7 @@ part_piece raw depth text place (Head field) utf8 within boundary small is =
     let far : drop (1 + field.expression) (drop place text) ≡ drop (place + (1 + field.expression)) text = drop-drop (1 + field.expression) place text in
     let sum : place + (1 + field.expression) ≡ place + 1 + field.expression = omega arith in
     let all : drop field.expression inner ≡ drop (place + 1 + field.expression) text = near ∙ (far ∙ ap (λ n. drop n text) sum) in
-    let ends : is_end (drop (place + 1 + field.expression) text) ≡ true = subst (λ t. is_end t ≡ true) all is.1.expression.ends in
+    let ends : is_end (drop (place + 1 + field.expression) text) ≡ true = subst (λ t. is_end t ≡ true) all (row_of_expression inner field.expression is.1.expression).ends in
     let inside : place + 1 + field.expression ≤ length text = omega (arith, fits.1, holds.1) in
     All-cons (IsPieceOf text) _ [] (record {
       some = omega (arith, is.1.some);

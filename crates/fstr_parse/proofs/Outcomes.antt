@@ -4,9 +4,10 @@ use Rattle.std.proofs.lemmas.Bool.{cond_both, eqb-true, eq-eqb, ne_eqb, or_cases
 use Rattle.std.specs.List.{prefix_len}
 use Rattle.std.proofs.lemmas.List.{length-drop, drop_all}
 use Rattle.fstr_parse.specs.Bytes.{Text, byte, is_brace, is_blank, is_conversion}
-use Rattle.fstr_parse.specs.Rows.{Leads}
-use Rattle.fstr_parse.specs.Literals.{unit_len, same_depth, IsLiteral}
-use Rattle.fstr_parse.specs.Expressions.{IsExpression, IsHalted, step_len, brackets_behind, ends_at, is_end, opened_len, equals_len}
+use Rattle.fstr_parse.specs.Scan.{Leads}
+use Rattle.fstr_parse.specs.Literals.{same_depth, IsLiteral}
+use Rattle.fstr_parse.specs.Expressions.{IsExpression, IsHalted, brackets_behind, ends_at, is_end, equals_len}
+use Rattle.fstr_parse.specs.Scan.{unit_len, step_len, opened_len, LiteralRow, ExpressionRow, HaltRow}
 use Rattle.fstr_parse.specs.Fields.{IsField, IsBadField, IsEmpty, IsMisconverted, behind_equals, conversion_len, conversion_of, closing_of, is_wrong, right_len, ends_head}
 use Rattle.fstr_parse.specs.Heads.{halt_fault, wrong_at}
 use Rattle.fstr_parse.specs.Parts.{Opens, IsPart, IsFaultAt, IsOver, Cuts, part_len, depth_behind}
@@ -16,6 +17,8 @@ use Rattle.fstr_parse.specs.declared.part.Part.TheVariants.{Literal, Head, Forma
 use Rattle.fstr_parse.specs.declared.fault.FieldFault.{FieldFault}
 use Rattle.fstr_parse.specs.declared.fault.FieldFault.TheVariants.{Backslash, Comment, Unclosed, EmptyField, BadConversion, LoneBrace, TooNested, Memory}
 use Rattle.fstr_parse.proofs.RowLaws.{Leads-unique}
+use Rattle.fstr_parse.proofs.UnitLaws.{row_of_literal, ends_no_unit}
+use Rattle.fstr_parse.proofs.StepLaws.{row_of_expression, row_of_halted}
 use Rattle.fstr_parse.proofs.ExpressionLaws.{byte_in}
 
 pub data Outcome : Type 0 where
@@ -27,7 +30,7 @@ pub data Outcome : Type 0 where
 abbrev pub Gives : Bool → ℕ → Text → Outcome → Type 0
 Gives raw depth text Over = IsOver depth text
 Gives raw depth text (Stands part) = IsPart raw depth text part
-Gives raw depth text (Faulty stop fault) = IsFaultAt raw depth text stop fault
+Gives raw depth text (Faulty stop fault) = IsFaultAt depth text stop fault
 
 -- ---- within a field
 
@@ -69,7 +72,9 @@ unfolding step_len
 end_halts rest e = rw e refl
 
 ended_stop : (text : Text) (len : ℕ) → IsExpression text len → IsStop text 0 (drop len text)
-ended_stop text len is = record { steps = is.steps; row = is.row; halts = end_halts (drop len text) is.ends }
+ended_stop text len is =
+    let row = row_of_expression text len is in
+    record { steps = row.steps; row = row.row; halts = end_halts (drop len text) row.ends }
 
 size_back : (text : Text) (len : ℕ) → len ≤ length text → length text - length (drop len text) ≡ len
 size_back text len within = omega (arith, length-drop len text)
@@ -82,18 +87,18 @@ head_outcome : (text : Text) (len : ℕ) → IsExpression text len → prefix_le
 unfolding field_outcome
 head_outcome text len is some =
     let rest = drop len text in
-    let size : length text - length rest ≡ len = size_back text len is.within in
+    let size : length text - length rest ≡ len = size_back text len (row_of_expression text len is).within in
     let full : leb (length text - length rest) (prefix_len is_blank text) ≡ false = lt-leb (length text - length rest) (prefix_len is_blank text) (omega arith) in
-    let ends : is_end rest ≡ true = is.ends in
+    let ends : is_end rest ≡ true = (row_of_expression text len is).ends in
     rw (ends, full, size) refl
 
 blank_outcome : (text : Text) (len : ℕ) → IsExpression text len → len ≤ prefix_len is_blank text → field_outcome text 0 (drop len text) ≡ Faulty (drop len text) EmptyField
 unfolding field_outcome
 blank_outcome text len is blank =
     let rest = drop len text in
-    let size : length text - length rest ≡ len = size_back text len is.within in
+    let size : length text - length rest ≡ len = size_back text len (row_of_expression text len is).within in
     let empty : leb (length text - length rest) (prefix_len is_blank text) ≡ true = le-leb (length text - length rest) (prefix_len is_blank text) (omega arith) in
-    let ends : is_end rest ≡ true = is.ends in
+    let ends : is_end rest ≡ true = (row_of_expression text len is).ends in
     rw (ends, empty) refl
 
 halted_outcome : (text : Text) (brackets : ℕ) (rest : Text) → ends_at brackets rest ≡ false → field_outcome text brackets rest ≡ Faulty (drop (opened_len rest) rest) (halt_fault (drop (opened_len rest) rest))
@@ -144,12 +149,14 @@ field_stands text field is =
     }
 
 halt_stands : (text stop : Text) (fault : FieldFault) → IsHalted text stop → halt_fault stop ≡ fault → InField text (Faulty stop fault)
-halt_stands text stop fault halted is = record {
-  brackets = halted.brackets;
-  rest = halted.rest;
-  stop = record { steps = halted.steps; row = halted.row; halts = halted.halts };
-  is = sym (halted_outcome text halted.brackets halted.rest halted.unended ∙ (ap (λ s. Faulty s (halt_fault s)) (sym halted.here) ∙ ap (Faulty stop) is));
-}
+halt_stands text stop fault halted is =
+    let row = row_of_halted text stop halted in
+    record {
+      brackets = row.brackets;
+      rest = row.rest;
+      stop = record { steps = row.steps; row = row.row; halts = row.halts };
+      is = sym (halted_outcome text row.brackets row.rest row.unended ∙ (ap (λ s. Faulty s (halt_fault s)) (sym row.here) ∙ ap (Faulty stop) is));
+    }
 
 conversion_stands : (text stop : Text) (fault : FieldFault) → (bad : IsMisconverted text stop) → wrong_at (behind_equals bad.len text) (right_len (behind_equals bad.len text)) ≡ fault → InField text (Faulty stop fault)
 unfolding tail_outcome
@@ -228,8 +235,10 @@ By (Settled settled) raw depth text outcome = outcome ≡ settled
 
 literal_unique : (raw : Bool) (depth : ℕ) (text : Text) (a b : ℕ) → IsLiteral raw depth text a → IsLiteral raw depth text b → a ≡ b
 literal_unique raw depth text a b one other =
-    let same = Leads-unique (unit_len raw) same_depth one.units other.units depth text depth (drop a text) depth (drop b text) one.row other.row one.ends other.ends in
-    omega (arith, ap length same.1, length-drop a text, length-drop b text, one.within, other.within)
+    let x = row_of_literal raw depth text a one in
+    let y = row_of_literal raw depth text b other in
+    let same = Leads-unique (unit_len raw) same_depth x.units y.units depth text depth (drop a text) depth (drop b text) x.row y.row x.ends y.ends in
+    omega (arith, ap length same.1, length-drop a text, length-drop b text, x.within, y.within)
 
 By-unique : (s : Stage) (raw : Bool) (depth : ℕ) (text : Text) (one other : Outcome) → By s raw depth text one → By s raw depth text other → one ≡ other
 By-unique InText raw depth text one other a b =
@@ -243,7 +252,8 @@ leads_begin len behind (suc steps) level text level' rest row shorter = row.0
 
 unit_begins : (raw : Bool) (depth : ℕ) (text : Text) (len : ℕ) → 0 < len → IsLiteral raw depth text len → 0 < unit_len raw depth text
 unit_begins raw depth text len some literal =
-    leads_begin (unit_len raw) same_depth literal.units depth text depth (drop len text) literal.row (omega (arith, length-drop len text, literal.within))
+    let row = row_of_literal raw depth text len literal in
+    leads_begin (unit_len raw) same_depth row.units depth text depth (drop len text) row.row (omega (arith, length-drop len text, row.within))
 
 -- in a format no brace is a unit
 brace_no_unit : (raw : Bool) (depth : ℕ) (text : Text) → 0 < depth → is_brace (byte text 0) ≡ true → unit_len raw depth text ≡ 0
@@ -277,11 +287,19 @@ stage_opening raw depth text none opening =
     let some : 0 < length text = byte_in text 0 123 (omega arith) opening in
     stage_byte raw depth text none some ∙ cond-false (byte text 0 == 125) _ _ (ap (λ b. b == 125) opening)
 
-stage_field : (raw : Bool) (depth : ℕ) (text : Text) → Opens raw depth text → stage raw depth text ≡ InsideField
-stage_field raw depth text opens =
-    stage_opening raw depth text opens.single opens.brace ∙ cond-false (leb 2 depth) _ _ (lt-leb 2 depth opens.nested)
+-- a single brace is no unit
+single_no_unit : (raw : Bool) (depth : ℕ) (text : Text) (b : ℕ) → is_brace b ≡ true → byte text 0 ≡ b → (depth ≡ 0 → byte text 1 ≢ b) → unit_len raw depth text ≡ 0
+single_no_unit raw depth text b brace here single =
+    ends_no_unit raw depth text (inr (ap is_brace here ∙ brace, λ outside same. single outside (same ∙ here)))
 
-in_field : (raw : Bool) (depth : ℕ) (text : Text) (outcome : Outcome) → Opens raw depth text → InField (drop 1 text) outcome → By (stage raw depth text) raw depth text outcome
+opens_no_unit : (raw : Bool) (depth : ℕ) (text : Text) → Opens depth text → unit_len raw depth text ≡ 0
+opens_no_unit raw depth text opens = single_no_unit raw depth text 123 refl opens.brace opens.single
+
+stage_field : (raw : Bool) (depth : ℕ) (text : Text) → Opens depth text → stage raw depth text ≡ InsideField
+stage_field raw depth text opens =
+    stage_opening raw depth text (opens_no_unit raw depth text opens) opens.brace ∙ cond-false (leb 2 depth) _ _ (lt-leb 2 depth opens.nested)
+
+in_field : (raw : Bool) (depth : ℕ) (text : Text) (outcome : Outcome) → Opens depth text → InField (drop 1 text) outcome → By (stage raw depth text) raw depth text outcome
 in_field raw depth text outcome opens inside = subst (λ s. By s raw depth text outcome) (sym (stage_field raw depth text opens)) inside
 
 -- what stands at a place is what its stage says
@@ -303,7 +321,7 @@ gives_by raw depth text (Stands FormatEnd) part =
     subst (λ s. By s raw depth text (Stands FormatEnd)) (sym (stage_closing raw depth text none closing ∙ ap (λ b. Settled (cond b (Faulty text LoneBrace) (Stands FormatEnd))) inside)) (λ _. Stands FormatEnd)
 gives_by raw depth text (Faulty stop LoneBrace) fault =
     let outside : (depth == 0) ≡ true = eq-eqb depth 0 fault.0 in
-    subst (λ s. By s raw depth text (Faulty stop LoneBrace)) (sym (stage_closing raw depth text fault.2 fault.1 ∙ ap (λ b. Settled (cond b (Faulty text LoneBrace) (Stands FormatEnd))) outside)) (ap (λ t. Faulty t LoneBrace) fault.3)
+    subst (λ s. By s raw depth text (Faulty stop LoneBrace)) (sym (stage_closing raw depth text (single_no_unit raw depth text 125 refl fault.1 (λ _. fault.2)) fault.1 ∙ ap (λ b. Settled (cond b (Faulty text LoneBrace) (Stands FormatEnd))) outside)) (ap (λ t. Faulty t LoneBrace) fault.3)
 gives_by raw depth text (Faulty stop TooNested) fault =
     let opening = fault.1 in
     let none : unit_len raw depth text ≡ 0 = brace_no_unit raw depth text (omega (arith, fault.0)) (rw opening refl) in

@@ -3,7 +3,9 @@ use Rattle.std.proofs.Common.{◌≡◌, ◌≢◌, ℕ, zero, suc, ◌+◌, ◌
 use Rattle.std.proofs.lemmas.Bool.{cond_both, eqb-true, eqb-false, or_cases, ne_eqb, cases_lt, both_ways, cond-true, cond-false, cases_Bool}
 use Rattle.std.specs.List.{prefix_len}
 use Rattle.fstr_parse.specs.Bytes.{Text, byte, is_brace}
-use Rattle.fstr_parse.specs.Literals.{unit_len, escape_len, names_character, is_in_name, IsLiteral}
+use Rattle.fstr_parse.specs.Literals.{names_character, is_in_name, IsLiteral}
+use Rattle.fstr_parse.specs.Scan.{unit_len, escape_len}
+use Rattle.fstr_parse.proofs.UnitLaws.{row_of_literal, no_unit_ends}
 use Rattle.fstr_parse.specs.Fields.{IsField, IsBadField}
 use Rattle.fstr_parse.specs.Parts.{Opens, IsPart, IsFaultAt, IsOver, part_len, depth_behind}
 use Rattle.fstr_parse.specs.declared.field.Field.{Field}
@@ -40,7 +42,7 @@ opens_from raw depth text none some other =
     (or_cases (byte text 0 == 123) (byte text 0 == 125) (brace_stands raw depth text none some))
 
 -- a fault in the field that begins here
-pub field_fault : (raw : Bool) (depth : ℕ) (text stop : Text) (fault : FieldFault) → Opens raw depth text → IsBadField (drop 1 text) stop fault → IsFaultAt raw depth text stop fault
+pub field_fault : (raw : Bool) (depth : ℕ) (text stop : Text) (fault : FieldFault) → Opens depth text → IsBadField (drop 1 text) stop fault → IsFaultAt depth text stop fault
 field_fault raw depth text stop Backslash opens bad = (opens, bad)
 field_fault raw depth text stop Comment opens bad = (opens, bad)
 field_fault raw depth text stop Unclosed opens bad = inr (opens, bad)
@@ -50,14 +52,23 @@ field_fault raw depth text stop LoneBrace opens bad = absurd bad
 field_fault raw depth text stop TooNested opens bad = absurd bad
 field_fault raw depth text stop Memory opens bad = absurd bad
 
+-- a brace that begins no unit is not doubled
+pub apart : (raw : Bool) (depth : ℕ) (text : Text) (b : ℕ) → unit_len raw depth text ≡ 0 → byte text 0 ≡ b → is_brace b ≡ true → depth ≡ 0 → byte text 1 ≢ b
+apart raw depth text b none here brace outside same =
+    ⊎_elim
+    (λ empty. both_ways (is_brace b) (ap is_brace (sym here ∙ ap (λ t. byte t 0) empty)) brace)
+    (λ single. single.1 outside (same ∙ sym here))
+    (no_unit_ends raw depth text none)
+
 -- an empty literal part has no unit
 pub no_unit : (raw : Bool) (depth : ℕ) (text : Text) (len : ℕ) → IsLiteral raw depth text len → len ≤ 0 → unit_len raw depth text ≡ 0
 no_unit raw depth text len literal none =
     let is : len ≡ 0 = omega arith in
-    subst (λ n. unit_len raw depth (drop n text) ≡ 0) is literal.ends
+    subst (λ n. unit_len raw depth (drop n text) ≡ 0) is (row_of_literal raw depth text len literal).ends
 
 -- the field that the code finds may begin here
-pub opens_here : (raw : Bool) (depth : ℕ) (text : Text) (len : ℕ) → IsLiteral raw depth text len → len ≤ 0 → 0 < length text → byte text 0 ≢ 125 → depth < 2 → Opens raw depth text
+pub opens_here : (raw : Bool) (depth : ℕ) (text : Text) (len : ℕ) → IsLiteral raw depth text len → len ≤ 0 → 0 < length text → byte text 0 ≢ 125 → depth < 2 → Opens depth text
 opens_here raw depth text len literal none some other nested =
     let single : unit_len raw depth text ≡ 0 = no_unit raw depth text len literal none in
-    record { brace = opens_from raw depth text single some other; single = single; nested = nested }
+    let brace = opens_from raw depth text single some other in
+    record { brace = brace; single = λ outside. apart raw depth text 123 single brace refl outside; nested = nested }

@@ -2,8 +2,9 @@
 use Rattle.std.proofs.Common.{◌≡◌, ◌≢◌, ℕ, zero, suc, ◌+◌, ◌-◌, ◌≤◌, ◌<◌, ◌⊎◌, inl, inr, Bool, List, [], ◌∷◌, ◌++◌, length, drop, refl, sym, ap, ◌∙◌, subst, arith, ⊎_elim}
 use Rattle.std.proofs.lemmas.List.{length-drop}
 use Rattle.fstr_parse.specs.Bytes.{Text}
-use Rattle.fstr_parse.specs.Rows.{Leads}
-use Rattle.fstr_parse.specs.Expressions.{IsHalted, step_len, brackets_behind, opened_len, equals_len}
+use Rattle.fstr_parse.specs.Scan.{Leads}
+use Rattle.fstr_parse.specs.Expressions.{IsHalted, brackets_behind, equals_len}
+use Rattle.fstr_parse.specs.Scan.{step_len, opened_len}
 use Rattle.fstr_parse.specs.Fields.{IsBadField, IsMisconverted, behind_equals, right_len}
 use Rattle.fstr_parse.specs.Parts.{IsPart, IsFaultAt, IsOver, Cuts, part_len, depth_behind}
 use Rattle.fstr_parse.specs.Pieces.{pieces_of, IsCut, IsFirstFault}
@@ -11,6 +12,7 @@ use Rattle.fstr_parse.specs.declared.part.Part.{Part}
 use Rattle.fstr_parse.specs.declared.piece.Piece.{Piece}
 use Rattle.fstr_parse.specs.declared.fault.FieldFault.{FieldFault}
 use Rattle.fstr_parse.specs.declared.fault.FieldFault.TheVariants.{Backslash, Comment, Unclosed, EmptyField, BadConversion, LoneBrace, TooNested, Memory}
+use Rattle.fstr_parse.proofs.StepLaws.{row_of_halted}
 use Rattle.fstr_parse.proofs.Outcomes.{Outcome, Over, Stands, Faulty, Gives, Gives-unique}
 
 -- no part
@@ -103,8 +105,9 @@ leads_shorter len behind (suc steps) level text level' rest row =
 
 halted_shorter : (text stop : Text) → IsHalted text stop → length stop ≤ length text
 halted_shorter text stop halted =
-    let row = leads_shorter step_len brackets_behind halted.steps 0 text halted.brackets halted.rest halted.row in
-    omega (arith, ap length halted.here, length-drop (opened_len halted.rest) halted.rest)
+    let row = row_of_halted text stop halted in
+    let shorter = leads_shorter step_len brackets_behind row.steps 0 text row.brackets row.rest row.row in
+    omega (arith, ap length row.here, length-drop (opened_len row.rest) row.rest)
 
 misconverted_shorter : (text stop : Text) → IsMisconverted text stop → length stop ≤ length text
 misconverted_shorter text stop bad =
@@ -126,16 +129,16 @@ field_shorter : (text stop : Text) (fault : FieldFault) → IsBadField (drop 1 t
 field_shorter text stop fault bad = omega (arith, bad_shorter (drop 1 text) stop fault bad, length-drop 1 text)
 
 -- a fault stands in what is left of the text
-fault_shorter : (raw : Bool) (depth : ℕ) (text stop : Text) (fault : FieldFault) → IsFaultAt raw depth text stop fault → length stop ≤ length text
-fault_shorter raw depth text stop Backslash is = field_shorter text stop Backslash is.1
-fault_shorter raw depth text stop Comment is = field_shorter text stop Comment is.1
-fault_shorter raw depth text stop Unclosed is =
+fault_shorter : (depth : ℕ) (text stop : Text) (fault : FieldFault) → IsFaultAt depth text stop fault → length stop ≤ length text
+fault_shorter depth text stop Backslash is = field_shorter text stop Backslash is.1
+fault_shorter depth text stop Comment is = field_shorter text stop Comment is.1
+fault_shorter depth text stop Unclosed is =
     ⊎_elim (λ ended. omega (arith, ap length ended.2)) (λ inner. field_shorter text stop Unclosed inner.1) is
-fault_shorter raw depth text stop EmptyField is = field_shorter text stop EmptyField is.1
-fault_shorter raw depth text stop BadConversion is = field_shorter text stop BadConversion is.1
-fault_shorter raw depth text stop LoneBrace is = omega (arith, ap length is.3)
-fault_shorter raw depth text stop TooNested is = omega (arith, ap length is.2)
-fault_shorter raw depth text stop Memory is = absurd is
+fault_shorter depth text stop EmptyField is = field_shorter text stop EmptyField is.1
+fault_shorter depth text stop BadConversion is = field_shorter text stop BadConversion is.1
+fault_shorter depth text stop LoneBrace is = omega (arith, ap length is.3)
+fault_shorter depth text stop TooNested is = omega (arith, ap length is.2)
+fault_shorter depth text stop Memory is = absurd is
 
 -- parts as far as the end
 pub whole_cut : (raw : Bool) (literal text : Text) (front : List Part) (depth : ℕ) (rest : Text) (pieces : List Piece) → text ≡ literal → Cuts raw 0 text front depth rest → IsOver depth rest → pieces ≡ pieces_of 0 0 front → IsCut raw literal pieces
@@ -146,9 +149,9 @@ whole_cut raw literal text front depth rest pieces same cut over are = record {
 }
 
 -- parts as far as a fault
-pub first_fault : (raw : Bool) (literal text : Text) (front : List Part) (depth : ℕ) (rest stop : Text) (fault : FieldFault) → text ≡ literal → Cuts raw 0 text front depth rest → length rest ≤ length text → IsFaultAt raw depth rest stop fault → IsFirstFault raw literal (length literal - length stop) fault
+pub first_fault : (raw : Bool) (literal text : Text) (front : List Part) (depth : ℕ) (rest stop : Text) (fault : FieldFault) → text ≡ literal → Cuts raw 0 text front depth rest → length rest ≤ length text → IsFaultAt depth rest stop fault → IsFirstFault raw literal (length literal - length stop) fault
 first_fault raw literal text front depth rest stop fault same cut within stands =
-    let shorter = fault_shorter raw depth rest stop fault stands in
+    let shorter = fault_shorter depth rest stop fault stands in
     record {
       front = front;
       depth = depth;

@@ -3,7 +3,7 @@ use Rattle.std.proofs.Common.{◌≡◌, ℕ, zero, suc, ◌+◌, ◌-◌, ◌�
 use Rattle.std.proofs.lemmas.Bool.{cases_lt}
 use Rattle.std.proofs.lemmas.List.{length-drop, drop-drop, get_or_past}
 use Rattle.fstr_parse.specs.Bytes.{Text}
-use Rattle.fstr_parse.specs.Rows.{Leads}
+use Rattle.fstr_parse.specs.Scan.{Leads}
 
 -- the rest is what stands behind so many bytes of the text
 pub record IsBehind (text rest : Text) : Type 0 where

@@ -7,3 +7,4 @@ pub mod Parts
 pub mod Pieces
 pub mod Answers
 pub mod Heads
+pub mod Scan

@@ -1,40 +1,42 @@
 -- Literal parts: the text of an f-string outside its fields. Doubled braces stand for braces outside formats, and
 -- a backslash keeps no brace, but for the braces of `\N{NAME}` where escapes are read.
-use Rattle.std.specs.Prelude.{◌≡◌, ℕ, ◌+◌, ◌≤◌, ◌<◌, Bool, not, ◌&&◌, ◌||◌, ◌==◌, if◌then◌else◌, min, length, drop}
-use Rattle.std.specs.List.{prefix_len}
+use Rattle.std.specs.Prelude.{◌≡◌, ◌≢◌, ℕ, Bool, true, false, not, ◌&&◌, ◌==◌, ◌⊎◌, List, [], ◌∷◌, ◌++◌, length}
+use Rattle.std.specs.List.{concat, list_all}
 use Rattle.fstr_parse.specs.Bytes.{Text, byte, is_brace}
-use Rattle.fstr_parse.specs.Rows.{Leads}
+use Rattle.fstr_parse.specs.Rows.{Row}
 
 -- no `}`
 abbrev pub is_in_name : ℕ → Bool
 is_in_name b = not (b == 125)
 
--- `\N{` stands here, and escapes are read
+-- behind the first byte stands `N{`, and escapes are read
 abbrev pub names_character : Bool → Text → Bool
 names_character raw text = not raw && (byte text 1 == 78 && byte text 2 == 123)
 
--- the length of a unit that begins with a backslash: `\N{NAME}`, at most up to the text's end, or the backslash
--- with the byte behind it, or the backslash alone before a brace and at the end
-unfoldable pub escape_len : Bool → Text → ℕ
-escape_len raw text =
-    if names_character raw text then min (length text) (4 + prefix_len is_in_name (drop 3 text))
-    else (if length text == 1 || is_brace (byte text 1) then 1 else 2)
+-- a unit of a literal part, under so many formats and before the text behind it: a byte that is neither a brace nor
+-- a backslash; outside formats a doubled brace; `\N{NAME}`, which the text's end may cut off; a backslash with the byte
+-- behind it; and a backslash alone, before a brace and at the end
+pub data IsUnit (raw : Bool) (depth : ℕ) (unit behind : Text) : Type 0 where
+  plain : (b : ℕ) → is_brace b ≡ false → b ≢ 92 → unit ≡ b ∷ [] → IsUnit raw depth unit behind
+  doubled : (b : ℕ) → is_brace b ≡ true → depth ≡ 0 → unit ≡ b ∷ b ∷ [] → IsUnit raw depth unit behind
+  named : (name : Text) → raw ≡ false → list_all is_in_name name ≡ true → unit ≡ 92 ∷ 78 ∷ 123 ∷ (name ++ 125 ∷ []) → IsUnit raw depth unit behind
+  cut_off : (name : Text) → raw ≡ false → list_all is_in_name name ≡ true → behind ≡ [] → unit ≡ 92 ∷ 78 ∷ 123 ∷ name → IsUnit raw depth unit behind
+  escape : (b : ℕ) → is_brace b ≡ false → names_character raw (92 ∷ b ∷ behind) ≡ false → unit ≡ 92 ∷ b ∷ [] → IsUnit raw depth unit behind
+  alone : (behind ≡ []) ⊎ (is_brace (byte behind 0) ≡ true) → unit ≡ 92 ∷ [] → IsUnit raw depth unit behind
 
--- the length of the unit of a literal part that stands here, under so many formats, and 0 where none does: a doubled
--- brace outside formats, an escape, or any byte but a brace
-unfoldable pub unit_len : Bool → ℕ → Text → ℕ
-unit_len raw depth text =
-    if length text == 0 then 0
-    else (if is_brace (byte text 0) then (if depth == 0 && byte text 1 == byte text 0 then 2 else 0)
-    else (if byte text 0 == 92 then escape_len raw text else 1))
+-- a literal part ends here: at the text's end, or at a brace, which outside formats is not doubled
+abbrev pub EndsLiteral : ℕ → Text → Type 0
+EndsLiteral depth text = (text ≡ []) ⊎ ((is_brace (byte text 0) ≡ true) × (depth ≡ 0 → byte text 1 ≢ byte text 0))
 
--- a step within a literal part opens and closes no format
+-- a unit opens and closes no format
 abbrev pub same_depth : ℕ → Text → ℕ
 same_depth depth text = depth
 
--- the text's first bytes, so many, are a row of units, and no unit stands behind them
+-- the text's first bytes, so many, are a row of units, as far as literal parts go
 pub record IsLiteral (raw : Bool) (depth : ℕ) (text : Text) (len : ℕ) : Type 0 where
-  pub units : ℕ
-  pub within : len ≤ length text
-  pub row : Leads (unit_len raw) same_depth units depth text depth (drop len text)
-  pub ends : unit_len raw depth (drop len text) ≡ 0
+  pub units : List Text
+  pub rest : Text
+  pub is : text ≡ concat units ++ rest
+  pub size : len ≡ length (concat units)
+  pub row : Row (IsUnit raw) same_depth depth units depth rest
+  pub ends : EndsLiteral depth rest

@@ -36,7 +36,7 @@ pub record IsFirstFault (raw : Bool) (text : Text) (place : ℕ) (fault : FieldF
   pub rest : Text
   pub stop : Text
   pub cut : Cuts raw 0 text front depth rest
-  pub stands : IsFaultAt raw depth rest stop fault
+  pub stands : IsFaultAt depth rest stop fault
   pub here : place + length stop ≡ length text
 
 -- a piece of this text: it is not empty, can be sliced out, and is nested as deep as may be; a literal part has no conversion

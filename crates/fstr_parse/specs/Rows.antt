@@ -1,10 +1,11 @@
--- Rows of steps over a text: how a literal part is made of units, and an expression of strings and single bytes.
-use Rattle.std.specs.Prelude.{◌≡◌, ℕ, zero, suc, ◌<◌, drop}
+-- Rows of steps: how a literal part is made of units, and an expression of strings and single bytes.
+use Rattle.std.specs.Prelude.{◌≡◌, ℕ, List, [], ◌∷◌, ◌++◌}
+use Rattle.std.specs.List.{concat}
 use Rattle.fstr_parse.specs.Bytes.{Text}
 
--- So many steps lead from the text, in which so many brackets or formats are open, to the rest. A step is as long as
--- `len` says of the place where it begins, and never empty.
-abbrev pub Leads : (ℕ → Text → ℕ) → (ℕ → Text → ℕ) → ℕ → ℕ → Text → ℕ → Text → Type 0
-Leads len level_behind zero level text level' rest = (level ≡ level') × (text ≡ rest)
-Leads len level_behind (suc steps) level text level' rest =
-    (0 < len level text) × Leads len level_behind steps (level_behind level text) (drop (len level text) text) level' rest
+-- These texts stand one behind the other and before the rest. Each is a step where it stands, and so many brackets or
+-- formats are open there.
+abbrev pub Row : (ℕ → Text → Text → Type 0) → (ℕ → Text → ℕ) → ℕ → List Text → ℕ → Text → Type 0
+Row IsStep behind level [] level' rest = level ≡ level'
+Row IsStep behind level (step ∷ steps) level' rest =
+    IsStep level step (concat steps ++ rest) × Row IsStep behind (behind level step) steps level' rest

@@ -2,6 +2,7 @@
 ghost use Rattle.std.specs.Prelude.{◌≡◌, ◌+◌, ◌≤◌, ◌<◌, ◌^◌, length, slice_index, IsTrue, MatchResult, drop, List, ℕ};
 ghost use Rattle.fstr_parse.specs.Bytes.{is_quote};
 ghost use Rattle.fstr_parse.specs.Expressions as spec;
+ghost use Rattle.fstr_parse.specs.Scan as scan;
 ghost use Rattle.fstr_parse.specs.Expressions.{IsExpression};
 ghost use Rattle.fstr_parse.specs.Fields.{IsBadField};
 ghost use Rattle.fstr_parse.specs.Heads.{halt_fault};
@@ -63,7 +64,7 @@ fn are_quotes(quote: u8, count: usize, text: &[u8]) -> bool
 
 /// How many bytes stand before closing quotes, a backslash or the end.
 fn body_len(quote: u8, count: usize, text: &[u8]) -> usize
-    ensures value { result ≡ spec.body_len quote count text.now }
+    ensures value { result ≡ scan.body_len quote count text.now }
     ensures within { result ≤ length text.now }
 {
     let mut rest = text;
@@ -77,9 +78,9 @@ fn body_len(quote: u8, count: usize, text: &[u8]) -> usize
 }
 
 /// How far a string at the front goes before its closing quotes, a backslash or the end.
-#[tactic(auto, unfolding(crate::specs::Expressions::opened_len))]
+#[tactic(auto, unfolding(crate::specs::Scan::opened_len))]
 fn opened_len(text: &[u8]) -> usize
-    ensures value { result ≡ spec.opened_len text.now }
+    ensures value { result ≡ scan.opened_len text.now }
     ensures within { result ≤ length text.now }
 {
     let quote = byte_at(text, 0);
@@ -90,10 +91,10 @@ fn opened_len(text: &[u8]) -> usize
     count + body_len(quote, count, text.split_at(count).1)
 }
 
-#[tactic(auto, unfolding(crate::specs::Expressions::string_len))]
+#[tactic(auto, unfolding(crate::specs::Scan::string_len))]
 fn string_len(text: &[u8]) -> usize
     requires { IsTrue (is_quote (slice_index text.now 0)) }
-    ensures value { result ≡ spec.string_len text.now }
+    ensures value { result ≡ scan.string_len text.now }
     ensures within { result ≤ length text.now }
 {
     let count = quotes_len(text);
@@ -112,9 +113,9 @@ fn ends_at(brackets: usize, text: &[u8]) -> bool
 }
 
 /// The length of the step of an expression at the front, in which so many brackets are open.
-#[tactic(auto, unfolding(crate::specs::Expressions::step_len))]
+#[tactic(auto, unfolding(crate::specs::Scan::step_len))]
 fn step_len(brackets: usize, text: &[u8]) -> usize
-    ensures value { result ≡ spec.step_len brackets text.now }
+    ensures value { result ≡ scan.step_len brackets text.now }
     ensures within { result ≤ length text.now }
 {
     if ends_at(brackets, text) || text.is_empty() {
@@ -144,7 +145,7 @@ fn brackets_behind(brackets: usize, text: &[u8]) -> usize
 
 /// Why an expression can't go on here.
 fn fault_at(text: &[u8]) -> FieldFault
-    ensures { result ≡ halt_fault (drop (spec.opened_len text.now) text.now) }
+    ensures { result ≡ halt_fault (drop (scan.opened_len text.now) text.now) }
 {
     let stop = text.split_at(opened_len(text)).1;
     match byte_at(stop, 0) {

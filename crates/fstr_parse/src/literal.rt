@@ -1,14 +1,14 @@
 // Literal parts.
 ghost use Rattle.std.specs.Prelude.{◌≡◌, ◌+◌, ◌<◌, ◌≤◌, length};
 ghost use Rattle.std.specs.List.{prefix_len};
-ghost use Rattle.fstr_parse.specs.Literals as spec;
-ghost use Rattle.fstr_parse.specs.Literals.{IsLiteral};
+ghost use Rattle.fstr_parse.specs.Scan as spec;
+ghost use Rattle.fstr_parse.specs.Literals.{IsLiteral, is_in_name, names_character};
 
 use crate::bytes::{byte_at, is_brace};
 
 /// How many bytes stand before the first `}`.
 fn name_len(text: &[u8]) -> usize
-    ensures value { result ≡ prefix_len spec.is_in_name text.now }
+    ensures value { result ≡ prefix_len is_in_name text.now }
     ensures within { result ≤ length text.now }
 {
     let mut end = 0;
@@ -19,12 +19,12 @@ fn name_len(text: &[u8]) -> usize
 }
 
 fn names_character(raw: bool, text: &[u8]) -> bool
-    ensures { result ≡ spec.names_character raw text.now }
+    ensures { result ≡ names_character raw text.now }
 {
     !raw && byte_at(text, 1) == b'N' && byte_at(text, 2) == b'{'
 }
 
-#[tactic(auto, unfolding(crate::specs::Literals::escape_len))]
+#[tactic(auto, unfolding(crate::specs::Scan::escape_len))]
 fn escape_len(raw: bool, text: &[u8]) -> usize
     requires { 0 < length text.now }
     ensures value { result ≡ spec.escape_len raw text.now }
@@ -41,7 +41,7 @@ fn escape_len(raw: bool, text: &[u8]) -> usize
 }
 
 /// The length of the unit of a literal part at the front.
-#[tactic(auto, unfolding(crate::specs::Literals::unit_len))]
+#[tactic(auto, unfolding(crate::specs::Scan::unit_len))]
 fn unit_len(raw: bool, depth: u8, text: &[u8]) -> usize
     ensures value { result ≡ spec.unit_len raw depth text.now }
     ensures within { result ≤ length text.now }

@@ -48,7 +48,7 @@ pub fn depth_behind(depth: u8, part: Part) -> u8
 pub fn part_at(raw: bool, depth: u8, text: &[u8]) -> Result<Option<Part>, FieldFault>
     ensures { MatchResult result
         (λ part. MatchOption part (IsOver depth text.now) (IsPart raw depth text.now))
-        (λ fault. (stop : List ℕ) × IsFaultAt raw depth text.now stop fault) }
+        (λ fault. (stop : List ℕ) × IsFaultAt depth text.now stop fault) }
 {
     let len = literal_len(raw, depth, text);
     if len > 0 {

@@ -1,5 +1,5 @@
 use Rattle.std.proofs.Common.{◌≡◌, ◌+◌, ◌-◌, ◌≤◌, length}
-use Rattle.fstr_parse.specs.Expressions.{body_len}
+use Rattle.fstr_parse.specs.Scan.{body_len}
 use Rattle.fstr_parse.proofs.expression.body_len.Given as goal
 
 abbrev pub invariant-loop-rest : goal.invariant-loop-rest

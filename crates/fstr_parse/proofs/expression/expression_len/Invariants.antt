@@ -1,6 +1,7 @@
 use Rattle.std.proofs.Common.{◌+◌, ◌≤◌, ℕ, length}
-use Rattle.fstr_parse.specs.Rows.{Leads}
-use Rattle.fstr_parse.specs.Expressions.{step_len, brackets_behind}
+use Rattle.fstr_parse.specs.Scan.{Leads}
+use Rattle.fstr_parse.specs.Expressions.{brackets_behind}
+use Rattle.fstr_parse.specs.Scan.{step_len}
 use Rattle.fstr_parse.proofs.RowLaws.{IsBehind}
 use Rattle.fstr_parse.proofs.expression.expression_len.Given as goal
 

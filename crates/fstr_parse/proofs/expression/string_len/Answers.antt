@@ -1,5 +1,6 @@
 use Rattle.std.proofs.Common.{◌≡◌, true, length, drop, arith}
-use Rattle.fstr_parse.specs.Expressions.{quotes_len, are_quotes, opened_len}
+use Rattle.fstr_parse.specs.Expressions.{quotes_len, are_quotes}
+use Rattle.fstr_parse.specs.Scan.{opened_len}
 use Rattle.fstr_parse.specs.Bytes.{byte}
 use Rattle.fstr_parse.proofs.ExpressionLaws.{string_within}
 use Rattle.fstr_parse.proofs.expression.string_len.Goals as goal

@@ -1,6 +1,7 @@
 use Rattle.std.proofs.Common.{ℕ, length}
-use Rattle.fstr_parse.specs.Rows.{Leads}
-use Rattle.fstr_parse.specs.Literals.{unit_len, same_depth}
+use Rattle.fstr_parse.specs.Scan.{Leads}
+use Rattle.fstr_parse.specs.Literals.{same_depth}
+use Rattle.fstr_parse.specs.Scan.{unit_len}
 use Rattle.fstr_parse.proofs.RowLaws.{IsBehind}
 use Rattle.fstr_parse.proofs.literal.literal_len.Given as goal
 
