@@ -1,16 +1,15 @@
 -- Rows of parts: one part more, and its piece.
-use Rattle.std.proofs.Common.{◌≡◌, ◌≢◌, ℕ, zero, suc, ◌+◌, ◌-◌, ◌≤◌, ◌<◌, ◌⊎◌, Bool, true, false, ◌==◌, cond, List, [], ◌∷◌, ◌++◌, length, drop, get_or, refl, sym, ap, ◌∙◌, subst, arith, ⊎_elim}
+use Rattle.std.proofs.Common.{◌≡◌, ℕ, ◌+◌, ◌-◌, ◌≤◌, ◌<◌, Bool, List, [], ◌∷◌, ◌++◌, length, drop, refl, sym, ap, ◌∙◌, arith}
 use Rattle.std.proofs.lemmas.Bool.{cond_both}
-use Rattle.std.proofs.lemmas.List.{length-drop, drop-drop, append_assoc, append-nil}
-use Rattle.fstr_parse.specs.Bytes.{Text, byte}
+use Rattle.std.proofs.lemmas.List.{length-drop, append_assoc, append-nil}
+use Rattle.fstr_parse.specs.Bytes.{Text}
 use Rattle.fstr_parse.specs.Expressions.{equals_len}
 use Rattle.fstr_parse.specs.Fields.{IsField, behind_equals, conversion_len, closing_of}
-use Rattle.fstr_parse.specs.Parts.{Opens, IsPart, Cuts, part_len, depth_behind, HoldsExpression}
+use Rattle.fstr_parse.specs.Parts.{IsPart, Cuts, part_len, depth_behind, HoldsExpression}
 use Rattle.fstr_parse.specs.Pieces.{piece_of, pieces_of}
 use Rattle.fstr_parse.specs.declared.field.Field.{Field}
 use Rattle.fstr_parse.specs.declared.part.Part.{Part}
 use Rattle.fstr_parse.specs.declared.part.Part.TheVariants.{Literal, Head, FormatEnd}
-use Rattle.fstr_parse.specs.declared.piece.Piece.{Piece}
 use Rattle.fstr_parse.proofs.UnitLaws.{row_of_literal}
 use Rattle.fstr_parse.proofs.ExpressionLaws.{byte_in}
 

@@ -1,10 +1,10 @@
 -- Strings and steps lie within the text.
-use Rattle.std.proofs.Common.{◌≡◌, ◌≢◌, ℕ, zero, suc, ◌+◌, ◌-◌, ◌≤◌, ◌<◌, ◌⊎◌, inl, inr, Bool, true, false, ◌&&◌, ◌||◌, ◌==◌, cond, [], ◌∷◌, length, drop, get_or, refl, sym, ap, ◌∙◌, subst, arith, ⊎_elim}
+use Rattle.std.proofs.Common.{◌≡◌, ◌≢◌, ℕ, zero, suc, ◌+◌, ◌-◌, ◌≤◌, ◌<◌, ◌⊎◌, inl, inr, true, false, ◌&&◌, ◌||◌, ◌==◌, cond, [], ◌∷◌, length, drop, refl, sym, ap, ◌∙◌, subst, arith, ⊎_elim}
 use Rattle.std.proofs.lemmas.Bool.{and_parts, or_cases, both_ways, cond_both, cond-true, eqb-true, false_from_ne_true}
 use Rattle.std.proofs.lemmas.Bool.Decides.{nat_tests}
 use Rattle.std.proofs.lemmas.List.{length-drop, drop-drop, drop_all}
 use Rattle.fstr_parse.specs.Bytes.{Text, byte, is_quote, is_opening, is_closing}
-use Rattle.fstr_parse.specs.Expressions.{quotes_len, are_quotes, ends_at, brackets_behind, is_end, is_mark, equals_len, inside, Halts}
+use Rattle.fstr_parse.specs.Expressions.{quotes_len, are_quotes, ends_at, brackets_behind, is_mark, inside, Halts}
 use Rattle.fstr_parse.specs.Scan.{body_len, opened_len, string_len, step_len}
 use Rattle.fstr_parse.proofs.RowLaws.{byte_within}
 

@@ -1,13 +1,12 @@
 -- What the code finds in a field is what stands there.
-use Rattle.std.proofs.Common.{◌≡◌, ◌≢◌, ℕ, zero, suc, ◌+◌, ◌-◌, ◌≤◌, ◌<◌, ◌⊎◌, inl, inr, Bool, true, false, ◌&&◌, ◌||◌, ◌==◌, cond, [], ◌∷◌, length, drop, get_or, refl, sym, ap, ◌∙◌, subst, arith, ⊎_elim}
-use Rattle.std.proofs.lemmas.Bool.{cond_both, eqb-true, eqb-false, eq-eqb, ne_eqb, cases_lt, lt-ltb, le-ltb}
+use Rattle.std.proofs.Common.{◌≡◌, ◌≢◌, ℕ, ◌+◌, ◌-◌, ◌<◌, ◌⊎◌, inl, inr, false, ◌==◌, cond, length, drop, refl, sym, ap, ◌∙◌, subst, arith, ⊎_elim}
+use Rattle.std.proofs.lemmas.Bool.{ne_eqb, cases_lt, lt-ltb, le-ltb}
 use Rattle.std.proofs.lemmas.List.{length-drop, drop_all}
 use Rattle.std.specs.List.{prefix_len}
-use Rattle.fstr_parse.specs.Bytes.{Text, byte, is_blank, is_conversion}
-use Rattle.fstr_parse.specs.Expressions.{IsExpression, IsHalted, Halts, equals_len, is_end, is_mark}
+use Rattle.fstr_parse.specs.Bytes.{Text, byte, is_blank}
+use Rattle.fstr_parse.specs.Expressions.{IsExpression, IsHalted, Halts, equals_len, is_end}
 use Rattle.fstr_parse.specs.Fields.{IsField, IsBadField, IsMisconverted, behind_equals, closing_of, right_len, conversion_len, conversion_of}
 use Rattle.fstr_parse.specs.Heads.{halt_fault, wrong_at, IsWrongConversion}
-use Rattle.fstr_parse.specs.declared.field.Field.{Field}
 use Rattle.fstr_parse.specs.declared.fault.FieldFault.{FieldFault}
 use Rattle.fstr_parse.specs.declared.fault.FieldFault.TheVariants.{Backslash, Comment, Unclosed, BadConversion}
 use Rattle.fstr_parse.proofs.ExpressionLaws.{halts_where, mark_closes}

@@ -1,7 +1,7 @@
 -- Rows of texts and rows of lengths are the same rows.
-use Rattle.std.proofs.Common.{◌≡◌, ℕ, zero, suc, ◌+◌, ◌-◌, ◌≤◌, ◌<◌, List, [], ◌∷◌, ◌++◌, length, take, drop, refl, sym, ap, ◌∙◌, subst, arith}
+use Rattle.std.proofs.Common.{◌≡◌, ℕ, zero, suc, ◌-◌, ◌<◌, List, [], ◌∷◌, ◌++◌, length, take, drop, refl, sym, ap, ◌∙◌, subst, arith}
 use Rattle.std.specs.List.{concat}
-use Rattle.std.proofs.lemmas.List.{length-drop, take-append-drop, drop_at, append_assoc}
+use Rattle.std.proofs.lemmas.List.{take-append-drop, drop_at, append_assoc}
 use Rattle.fstr_parse.specs.Bytes.{Text}
 use Rattle.fstr_parse.specs.Rows.{Row}
 use Rattle.fstr_parse.specs.Scan.{Leads}

@@ -1,18 +1,18 @@
 -- Pieces stand in order, between characters, and nested no deeper than fields may be.
-use Rattle.std.proofs.Common.{◌≡◌, ◌≢◌, ℕ, zero, suc, ◌+◌, ◌-◌, ◌≤◌, ◌<◌, ◌⊎◌, inl, inr, Bool, true, false, ◌&&◌, ◌||◌, ◌==◌, cond, List, [], ◌∷◌, ◌++◌, length, drop, get_or, refl, sym, ap, ◌∙◌, subst, arith, ⊎_elim, IsUtf8}
+use Rattle.std.proofs.Common.{◌≡◌, ℕ, ◌+◌, ◌-◌, ◌≤◌, ◌<◌, ◌⊎◌, inl, inr, Bool, true, false, ◌==◌, List, [], ◌∷◌, length, drop, get_or, refl, sym, ap, ◌∙◌, subst, arith, ⊎_elim, IsUtf8}
 use Rattle.std.specs.List.{All, AllPairs}
 use Rattle.std.specs.Str.{IsCharBoundary}
-use Rattle.std.proofs.lemmas.Bool.{cond_both, eqb-true, and_parts, or_cases, cases_lt, cases_Bool, cond-true, cond-false}
-use Rattle.std.proofs.lemmas.List.{length-drop, drop-drop, get_or-drop, append-nil}
+use Rattle.std.proofs.lemmas.Bool.{eqb-true, and_parts, or_cases, cases_lt, cases_Bool, cond-false}
+use Rattle.std.proofs.lemmas.List.{length-drop, drop-drop, get_or-drop}
 use Rattle.std.proofs.lemmas.List.Elements.{All-nil, All-cons, All-weaker, All-append}
 use Rattle.std.proofs.lemmas.List.Kept.{AllPairs-cons}
 use Rattle.std.proofs.lemmas.Str.{IsCharBoundary-start, IsCharBoundary-end, IsCharBoundary-before_ascii, IsCharBoundary-after_ascii}
 use Rattle.fstr_parse.specs.Bytes.{Text, byte, is_brace, is_conversion}
 use Rattle.fstr_parse.specs.Literals.{IsLiteral}
 use Rattle.fstr_parse.specs.Scan.{unit_len}
-use Rattle.fstr_parse.specs.Expressions.{IsExpression, is_end, is_mark, equals_len}
-use Rattle.fstr_parse.specs.Fields.{IsField, behind_equals, conversion_len, conversion_of, closing_of}
-use Rattle.fstr_parse.specs.Parts.{Opens, IsPart, Cuts, part_len, depth_behind}
+use Rattle.fstr_parse.specs.Expressions.{is_end, is_mark, equals_len}
+use Rattle.fstr_parse.specs.Fields.{IsField, behind_equals, conversion_len, closing_of}
+use Rattle.fstr_parse.specs.Parts.{IsPart, Cuts, part_len, depth_behind}
 use Rattle.fstr_parse.specs.Pieces.{piece_of, pieces_of, IsCut, IsPieceOf, IsInOrder}
 use Rattle.fstr_parse.specs.declared.field.Field.{Field}
 use Rattle.fstr_parse.specs.declared.part.Part.{Part}

@@ -1,16 +1,16 @@
 -- What stands at a place: the end, a part, or a fault; and that it is one of them alone.
-use Rattle.std.proofs.Common.{◌≡◌, ◌≢◌, ℕ, zero, suc, ◌+◌, ◌-◌, ◌≤◌, ◌<◌, ◌⊎◌, inl, inr, Bool, true, false, ◌&&◌, ◌||◌, ◌==◌, leb, ltb, cond, List, [], ◌∷◌, ◌++◌, length, drop, get_or, refl, sym, ap, ◌∙◌, subst, arith, ⊎_elim}
-use Rattle.std.proofs.lemmas.Bool.{cond_both, eqb-true, eq-eqb, ne_eqb, or_cases, both_ways, cond-true, cond-false, cases_Bool, le-leb, lt-leb, and_from, and_left, lt-ltb, le-ltb}
+use Rattle.std.proofs.Common.{◌≡◌, ◌≢◌, ℕ, zero, suc, ◌+◌, ◌-◌, ◌≤◌, ◌<◌, ◌⊎◌, inr, Bool, true, false, ◌&&◌, ◌==◌, leb, ltb, cond, [], length, drop, refl, sym, ap, ◌∙◌, subst, arith, ⊎_elim}
+use Rattle.std.proofs.lemmas.Bool.{cond_both, eqb-true, eq-eqb, ne_eqb, cond-true, cond-false, cases_Bool, le-leb, lt-leb, and_from, and_left, lt-ltb, le-ltb}
 use Rattle.std.specs.List.{prefix_len}
-use Rattle.std.proofs.lemmas.List.{length-drop, drop_all}
+use Rattle.std.proofs.lemmas.List.{length-drop}
 use Rattle.fstr_parse.specs.Bytes.{Text, byte, is_brace, is_blank, is_conversion}
 use Rattle.fstr_parse.specs.Scan.{Leads}
 use Rattle.fstr_parse.specs.Literals.{same_depth, IsLiteral}
 use Rattle.fstr_parse.specs.Expressions.{IsExpression, IsHalted, brackets_behind, ends_at, is_end, equals_len}
-use Rattle.fstr_parse.specs.Scan.{unit_len, step_len, opened_len, LiteralRow, ExpressionRow, HaltRow}
-use Rattle.fstr_parse.specs.Fields.{IsField, IsBadField, IsEmpty, IsMisconverted, behind_equals, conversion_len, conversion_of, closing_of, is_wrong, right_len, ends_head}
+use Rattle.fstr_parse.specs.Scan.{unit_len, step_len, opened_len}
+use Rattle.fstr_parse.specs.Fields.{IsField, IsBadField, IsMisconverted, behind_equals, conversion_len, conversion_of, closing_of, is_wrong, right_len, ends_head}
 use Rattle.fstr_parse.specs.Heads.{halt_fault, wrong_at}
-use Rattle.fstr_parse.specs.Parts.{Opens, IsPart, IsFaultAt, IsOver, Cuts, part_len, depth_behind}
+use Rattle.fstr_parse.specs.Parts.{Opens, IsPart, IsFaultAt, IsOver}
 use Rattle.fstr_parse.specs.declared.field.Field.{Field}
 use Rattle.fstr_parse.specs.declared.part.Part.{Part}
 use Rattle.fstr_parse.specs.declared.part.Part.TheVariants.{Literal, Head, FormatEnd}

@@ -1,16 +1,13 @@
 -- Parts: what stands where no literal text does, how long a part is, and that a place has one part or one fault.
-use Rattle.std.proofs.Common.{◌≡◌, ◌≢◌, ℕ, zero, suc, ◌+◌, ◌-◌, ◌≤◌, ◌<◌, ◌⊎◌, inl, inr, Bool, true, false, ◌&&◌, ◌||◌, ◌==◌, min, cond, [], ◌∷◌, length, drop, get_or, refl, sym, ap, ◌∙◌, subst, arith, ⊎_elim}
-use Rattle.std.proofs.lemmas.Bool.{cond_both, eqb-true, eqb-false, or_cases, ne_eqb, cases_lt, both_ways, cond-true, cond-false, cases_Bool}
+use Rattle.std.proofs.Common.{◌≡◌, ◌≢◌, ℕ, ◌+◌, ◌-◌, ◌≤◌, ◌<◌, ◌⊎◌, inr, Bool, true, false, ◌&&◌, ◌||◌, ◌==◌, min, cond, length, drop, refl, sym, ap, ◌∙◌, subst, arith, ⊎_elim}
+use Rattle.std.proofs.lemmas.Bool.{cond_both, eqb-true, or_cases, ne_eqb, both_ways, cond-false, cases_Bool}
 use Rattle.std.specs.List.{prefix_len}
 use Rattle.fstr_parse.specs.Bytes.{Text, byte, is_brace}
 use Rattle.fstr_parse.specs.Literals.{names_character, is_in_name, IsLiteral}
 use Rattle.fstr_parse.specs.Scan.{unit_len, escape_len}
 use Rattle.fstr_parse.proofs.UnitLaws.{row_of_literal, no_unit_ends}
-use Rattle.fstr_parse.specs.Fields.{IsField, IsBadField}
-use Rattle.fstr_parse.specs.Parts.{Opens, IsPart, IsFaultAt, IsOver, part_len, depth_behind}
-use Rattle.fstr_parse.specs.declared.field.Field.{Field}
-use Rattle.fstr_parse.specs.declared.part.Part.{Part}
-use Rattle.fstr_parse.specs.declared.part.Part.TheVariants.{Literal, Head, FormatEnd}
+use Rattle.fstr_parse.specs.Fields.{IsBadField}
+use Rattle.fstr_parse.specs.Parts.{Opens, IsFaultAt}
 use Rattle.fstr_parse.specs.declared.fault.FieldFault.{FieldFault}
 use Rattle.fstr_parse.specs.declared.fault.FieldFault.TheVariants.{Backslash, Comment, Unclosed, EmptyField, BadConversion, LoneBrace, TooNested, Memory}
 

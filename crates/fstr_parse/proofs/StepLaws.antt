@@ -1,15 +1,13 @@
 -- The steps of expressions, by their lengths.
-use Rattle.std.proofs.Common.{◌≡◌, ◌≢◌, ℕ, zero, suc, ◌+◌, ◌-◌, ◌≤◌, ◌<◌, ◌⊎◌, inl, inr, Bool, true, false, ◌&&◌, ◌||◌, ◌==◌, cond, List, [], ◌∷◌, ◌++◌, length, take, drop, get_or, refl, sym, ap, ◌∙◌, subst, arith, ⊎_elim}
+use Rattle.std.proofs.Common.{◌≡◌, ◌≢◌, ℕ, zero, suc, ◌+◌, ◌-◌, ◌≤◌, ◌<◌, ◌⊎◌, inl, inr, true, false, ◌||◌, ◌==◌, [], ◌∷◌, ◌++◌, length, take, drop, refl, sym, ap, ◌∙◌, subst, arith, ⊎_elim}
 use Rattle.std.specs.List.{concat}
-use Rattle.std.proofs.lemmas.Bool.{cond_both, cond-true, cond-false, eqb-true, eqb-false, eq-eqb, ne_eqb, or_cases, or_parts, or_left, or_right, and_left, and_right, both_ways, cases_Bool}
-use Rattle.std.proofs.lemmas.List.{length-append, length-drop, length-take-le, take-append-drop, drop_at, drop_all}
+use Rattle.std.proofs.lemmas.Bool.{cond_both, cond-true, cond-false, eqb-true, eqb-false, eq-eqb, ne_eqb, or_cases, or_parts, or_left, or_right, and_left, and_right, cases_Bool}
+use Rattle.std.proofs.lemmas.List.{length-append, length-drop, length-take-le, take-append-drop, drop_at}
 use Rattle.fstr_parse.specs.Bytes.{Text, byte, is_quote}
-use Rattle.fstr_parse.specs.Rows.{Row}
 use Rattle.fstr_parse.specs.Expressions.{IsBody, IsString, IsOpened, IsStep, whole_string, single_byte, IsExpression, IsHalted, Halts, inside, quotes_len, are_quotes, ends_at, is_end, is_mark, equals_len, brackets_behind}
 use Rattle.fstr_parse.specs.Scan.{Leads, body_len, opened_len, string_len, step_len, ExpressionRow, HaltRow}
-use Rattle.fstr_parse.proofs.RowLaws.{byte_within}
 use Rattle.fstr_parse.proofs.ExpressionLaws.{byte_in, quote_some, quotes_count, string_within, opened_none, opened_some, opened_far, opened_halts, halts_where}
-use Rattle.fstr_parse.proofs.JoinLaws.{Joins, IsRow, IsLed, row_of_leads, leads_of_row}
+use Rattle.fstr_parse.proofs.JoinLaws.{Joins, row_of_leads, leads_of_row}
 
 -- ---- bodies of strings
 

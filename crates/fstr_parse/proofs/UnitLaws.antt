@@ -1,15 +1,14 @@
 -- The units of literal parts, by their lengths.
-use Rattle.std.proofs.Common.{◌≡◌, ◌≢◌, ℕ, zero, suc, ◌+◌, ◌-◌, ◌≤◌, ◌<◌, ◌⊎◌, inl, inr, min, Bool, true, false, not, ◌&&◌, ◌||◌, ◌==◌, cond, List, [], ◌∷◌, ◌++◌, length, take, drop, get_or, refl, sym, ap, ◌∙◌, subst, arith, ⊎_elim}
+use Rattle.std.proofs.Common.{◌≡◌, ◌≢◌, ℕ, suc, ◌+◌, ◌-◌, ◌<◌, ◌⊎◌, inl, inr, min, Bool, true, false, not, ◌&&◌, ◌||◌, ◌==◌, cond, [], ◌∷◌, ◌++◌, length, take, drop, get_or, refl, sym, ap, ◌∙◌, subst, arith, ⊎_elim}
 use Rattle.std.specs.List.{concat, list_all, prefix_len}
-use Rattle.std.proofs.lemmas.Bool.{cond_both, cond-true, cond-false, eqb-true, eqb-false, eq-eqb, ne_eqb, or_cases, or_parts, and_parts, and_from, and_left, and_right, or_left, or_right, both_ways, cases_lt, cases_Bool, not-true, not-false, not_from_true, not_from_false, false_from_ne_true}
-use Rattle.std.proofs.lemmas.List.{length-append, length-drop, append-nil, append_assoc, take_all, drop_all, take-append-drop, drop_at}
+use Rattle.std.proofs.lemmas.Bool.{cond_both, cond-true, cond-false, eqb-true, eqb-false, eq-eqb, ne_eqb, or_cases, or_parts, and_parts, and_from, and_left, and_right, or_left, or_right, both_ways, cases_lt, not-true, not-false, false_from_ne_true}
+use Rattle.std.proofs.lemmas.List.{length-append, length-drop, append-nil, take_all, drop_all, drop_at}
 use Rattle.std.proofs.lemmas.List.Sums.{prefix_len-le-length, prefix_len_stops}
 use Rattle.std.proofs.Math.Seq.{take-suc}
 use Rattle.fstr_parse.specs.Bytes.{Text, byte, is_brace}
-use Rattle.fstr_parse.specs.Rows.{Row}
 use Rattle.fstr_parse.specs.Literals.{IsUnit, plain, doubled, named, cut_off, escape, alone, is_in_name, names_character, EndsLiteral, IsLiteral, same_depth}
 use Rattle.fstr_parse.specs.Scan.{Leads, escape_len, unit_len, LiteralRow}
-use Rattle.fstr_parse.proofs.JoinLaws.{Joins, IsRow, IsLed, row_of_leads, leads_of_row}
+use Rattle.fstr_parse.proofs.JoinLaws.{Joins, row_of_leads, leads_of_row}
 
 -- ---- names of characters
 

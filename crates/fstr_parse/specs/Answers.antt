@@ -1,5 +1,5 @@
 -- What a call that cuts an f-string may answer. Want of memory is free.
-use Rattle.std.specs.Prelude.{◌≡◌, ◌≢◌, ◌⊎◌, ℕ, List, Result, Ok, Err}
+use Rattle.std.specs.Prelude.{◌≡◌, ◌⊎◌, List, Result, Ok, Err}
 use Rattle.fstr_parse.specs.declared.piece.Piece.{Piece}
 use Rattle.fstr_parse.specs.declared.fault.FieldFault.{FieldFault}
 use Rattle.fstr_parse.specs.declared.fault.FieldFault.TheVariants.{Memory}

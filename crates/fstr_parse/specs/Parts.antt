@@ -1,6 +1,6 @@
 -- The parts of an f-string: literal parts, the heads of fields, and the ends of formats. A format holds parts in its turn,
 -- and fields stand outside formats or in one format, but no deeper.
-use Rattle.std.specs.Prelude.{◌≡◌, ◌≢◌, ℕ, ◌+◌, ◌-◌, ◌≤◌, ◌<◌, Bool, if◌then◌else◌, ◌⊎◌, List, [], ◌∷◌, ◌++◌, length, drop}
+use Rattle.std.specs.Prelude.{◌≡◌, ◌≢◌, ℕ, ◌+◌, ◌-◌, ◌≤◌, ◌<◌, Bool, if◌then◌else◌, ◌⊎◌, List, [], ◌∷◌, drop}
 use Rattle.fstr_parse.specs.Bytes.{Text, byte}
 use Rattle.fstr_parse.specs.Literals.{IsLiteral}
 use Rattle.fstr_parse.specs.Fields.{IsField, IsBadField}

@@ -1,7 +1,7 @@
-use Rattle.std.proofs.Common.{rules, ◌≡◌, ◌≢◌, ◌∷◌, [], ◌++◌, ◌+◌, ◌-◌, ◌≤◌, List, ℕ, length, inl, sym, ap, ◌∙◌, subst, arith, MatchOption}
+use Rattle.std.proofs.Common.{rules, ◌≡◌, ◌∷◌, [], ◌++◌, ◌+◌, ◌-◌, length, inl, sym, ap, ◌∙◌, subst, arith, MatchOption}
 use Rattle.std.proofs.lemmas.Result.{err_from_is_err_and}
 use Rattle.fstr_parse.specs.Parts.{IsPart, IsOver}
-use Rattle.fstr_parse.specs.Pieces.{IsCut, IsFirstFault, piece_of}
+use Rattle.fstr_parse.specs.Pieces.{piece_of}
 use Rattle.fstr_parse.proofs.CutLaws.{Cuts-push, pieces_of-push, part_within, depth_small}
 use Rattle.fstr_parse.proofs.ReadingLaws.{IsCut-unique, IsCut-no_fault, IsFirstFault-unique, whole_cut, first_fault}
 use Rattle.fstr_parse.proofs.OrderLaws.{IsCut-in_order}

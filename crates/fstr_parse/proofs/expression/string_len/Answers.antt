@@ -1,4 +1,4 @@
-use Rattle.std.proofs.Common.{◌≡◌, true, length, drop, arith}
+use Rattle.std.proofs.Common.{◌≡◌, true, drop, arith}
 use Rattle.fstr_parse.specs.Expressions.{quotes_len, are_quotes}
 use Rattle.fstr_parse.specs.Scan.{opened_len}
 use Rattle.fstr_parse.specs.Bytes.{byte}

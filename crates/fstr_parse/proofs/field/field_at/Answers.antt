@@ -1,8 +1,7 @@
-use Rattle.std.proofs.Common.{rules, ◌≡◌, ◌≢◌, ◌<◌, ◌≤◌, drop, arith, sym, ◌∙◌, ap, subst}
+use Rattle.std.proofs.Common.{rules, ◌≡◌, ◌≢◌, ◌<◌, drop, arith, sym, ◌∙◌, ap, subst}
 use Rattle.std.specs.List.{prefix_len}
 use Rattle.std.proofs.lemmas.Result.{err_from_is_err_and}
 use Rattle.fstr_parse.specs.Bytes.{byte, is_blank}
-use Rattle.fstr_parse.specs.Expressions.{equals_len}
 use Rattle.fstr_parse.specs.Fields.{behind_equals}
 use Rattle.fstr_parse.specs.Heads.{IsWrongConversion}
 use Rattle.fstr_parse.proofs.FieldLaws.{misconverted_fault, plain_field, behind_is}

@@ -1,9 +1,8 @@
-use Rattle.std.proofs.Common.{rules, ◌≡◌, ◌≢◌, ◌<◌, ◌≤◌, length, drop, arith, sym, ◌∙◌, ap, subst}
+use Rattle.std.proofs.Common.{rules, ◌≢◌, ◌<◌, ◌≤◌, length, arith, subst}
 use Rattle.std.proofs.lemmas.Bool.Decides.{nat_tests}
 use Rattle.std.proofs.lemmas.Result.{err_from_is_err_and}
 use Rattle.fstr_parse.specs.Bytes.{byte}
 use Rattle.fstr_parse.specs.Fields.{IsField, IsBadField}
-use Rattle.fstr_parse.specs.Parts.{Opens}
 use Rattle.fstr_parse.proofs.PartLaws.{no_unit, opens_from, opens_here, field_fault}
 use Rattle.fstr_parse.proofs.part.part_at.Goals as goal
 
