@@ -1,0 +1,10 @@
+pub mod Bytes
+pub mod Rows
+pub mod Literals
+pub mod Expressions
+pub mod Fields
+pub mod Parts
+pub mod Pieces
+pub mod Answers
+pub mod Heads
+pub mod Scan
