@@ -1,0 +1,4 @@
+pub mod KeptLaws
+pub mod RowLaws
+pub mod FinishLaws
+pub mod EntryLaws
