@@ -1,4 +1,6 @@
 pub mod KeptLaws
 pub mod RowLaws
+pub mod WalkLaws
 pub mod FinishLaws
 pub mod EntryLaws
+pub mod Reading

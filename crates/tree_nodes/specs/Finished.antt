@@ -2,7 +2,7 @@
 use Rattle.std.specs.Prelude.{◌≡◌, ℕ, ◌+◌, ◌<◌, ◌≤◌, ◌^◌, List, [], ◌∷◌, map, length, All}
 use Rattle.lint_values.specs.declared.place.NodeId.{NodeId}
 use Rattle.tree_nodes.specs.declared.tree.TreeRow.{TreeRow}
-use Rattle.tree_nodes.specs.Trees.{Entry, entries}
+use Rattle.tree_nodes.specs.Trees.{Tree, Entry, entries, node_at, parent_at}
 use Rattle.tree_nodes.specs.Back.{tree_from}
 use Rattle.tree_nodes.specs.Kept.{within, node_in, FitsIn, IsTextIn, number_of, parent_in}
 
@@ -22,3 +22,10 @@ pub record IsFinished (names : List ℕ) (kids : List NodeId) (rows : List TreeR
   pub fit : All (NodeFits names kids) rows
   pub preorder : entries_in names kids rows ≡ entries (tree_from (entries_in names kids rows))
   pub few : length rows < 2 ^ 32
+
+-- what a row says of a node without names and kids
+pub record IsRowOf (t : Tree) (n : ℕ) (row : TreeRow) : Type 0 where
+  pub kind : row.label.kind ≡ (node_at t n).kind
+  pub pos : row.label.pos ≡ (node_at t n).pos
+  pub end_line : row.label.end_line ≡ (node_at t n).end_line
+  pub parent : parent_in row.above ≡ parent_at t n

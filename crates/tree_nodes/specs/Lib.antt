@@ -6,3 +6,4 @@ pub mod Finishing
 pub mod Kept
 pub mod Rows
 pub mod Trees
+pub mod Walked
