@@ -28,7 +28,7 @@ IsIn j [] = ⊥
 IsIn j (x ∷ xs) = (j ≡ x) ⊎ IsIn j xs
 
 -- the entry of number k, where the first one's number is n
-abbrev IsAt : ℕ → List Entry → ℕ → Entry → Type 0
+abbrev pub IsAt : ℕ → List Entry → ℕ → Entry → Type 0
 IsAt n [] k e = ⊥
 IsAt n (x ∷ xs) k e = ((k ≡ n) × (x ≡ e)) ⊎ IsAt (n + 1) xs k e
 
@@ -70,14 +70,14 @@ contains-of_in j (x ∷ xs) h = ⊎_elim (λ here. (0, omega arith, sym here)) (
 
 -- ---- entries below a node, and behind it
 
-at-kids : (node : Node) (kids rest : Trees) (n : ℕ) (p : Option ℕ) (k : ℕ) (e : Entry) → IsAt (n + 1) (entries_from (n + 1) (Some n) kids) k e → IsAt n (entries_from n p (tree node kids rest)) k e
+pub at-kids : (node : Node) (kids rest : Trees) (n : ℕ) (p : Option ℕ) (k : ℕ) (e : Entry) → IsAt (n + 1) (entries_from (n + 1) (Some n) kids) k e → IsAt n (entries_from n p (tree node kids rest)) k e
 at-kids node kids rest n p k e h = inr (at-left (n + 1) (entries_from (n + 1) (Some n) kids) (entries_from (n + (1 + size kids)) p rest) k e h)
 
-at-rest : (node : Node) (kids rest : Trees) (n : ℕ) (p : Option ℕ) (k : ℕ) (e : Entry) → IsAt (n + (1 + size kids)) (entries_from (n + (1 + size kids)) p rest) k e → IsAt n (entries_from n p (tree node kids rest)) k e
+pub at-rest : (node : Node) (kids rest : Trees) (n : ℕ) (p : Option ℕ) (k : ℕ) (e : Entry) → IsAt (n + (1 + size kids)) (entries_from (n + (1 + size kids)) p rest) k e → IsAt n (entries_from n p (tree node kids rest)) k e
 at-rest node kids rest n p k e h = inr (at-right (n + 1) (n + (1 + size kids)) (entries_from (n + 1) (Some n) kids) (entries_from (n + (1 + size kids)) p rest) k e (omega (arith, length-entries_from kids (n + 1) (Some n))) h)
 
 -- the node itself, one below it, or one behind it
-at-cases : {C : Type 0} (node : Node) (kids rest : Trees) (n : ℕ) (p : Option ℕ) (k : ℕ) (e : Entry) → ((k ≡ n) × (entry_of n p node kids ≡ e) → C) → (IsAt (n + 1) (entries_from (n + 1) (Some n) kids) k e → C)
+pub at-cases : {C : Type 0} (node : Node) (kids rest : Trees) (n : ℕ) (p : Option ℕ) (k : ℕ) (e : Entry) → ((k ≡ n) × (entry_of n p node kids ≡ e) → C) → (IsAt (n + 1) (entries_from (n + 1) (Some n) kids) k e → C)
     → (IsAt (n + (1 + size kids)) (entries_from (n + (1 + size kids)) p rest) k e → C) → IsAt n (entries_from n p (tree node kids rest)) k e → C
 at-cases node kids rest n p k e here below behind h =
     ⊎_elim here (λ later. ⊎_elim below behind (at-split (n + 1) (n + (1 + size kids)) (entries_from (n + 1) (Some n) kids) (entries_from (n + (1 + size kids)) p rest) k e (omega (arith, length-entries_from kids (n + 1) (Some n))) later)) h
@@ -184,21 +184,21 @@ kids-are (tree node kids rest) n p k e h =
 -- ---- a tree
 
 -- a tree alone
-abbrev alone : Tree → Trees
+abbrev pub alone : Tree → Trees
 alone t = tree t.node t.kids none
 
 entries-alone : (t : Tree) → entries t ≡ entries_from 0 None (alone t)
 unfolding entries
 entries-alone t = ap (λ (es : List Entry). entry_of 0 None t.node t.kids ∷ es) (sym (append-nil (entries_from (0 + 1) (Some 0) t.kids)))
 
-at-entry : (t : Tree) (n : ℕ) → n < count_of t → IsAt 0 (entries_from 0 None (alone t)) n (entry_at t n)
+pub at-entry : (t : Tree) (n : ℕ) → n < count_of t → IsAt 0 (entries_from 0 None (alone t)) n (entry_at t n)
 unfolding entry_at
 at-entry t n l =
     let d : Entry = record { node = t.node; kids = []; parent = None } in
     let many = length-entries t in
     subst (λ (es : List Entry). IsAt 0 es n (get_or (entries t) n d)) (entries-alone t) (at-of_get 0 (entries t) n n d (omega arith) (omega arith))
 
-entry-at : (t : Tree) (n : ℕ) (e : Entry) → IsAt 0 (entries_from 0 None (alone t)) n e → entry_at t n ≡ e
+pub entry-at : (t : Tree) (n : ℕ) (e : Entry) → IsAt 0 (entries_from 0 None (alone t)) n e → entry_at t n ≡ e
 unfolding entry_at
 entry-at t n e h =
     let d : Entry = record { node = t.node; kids = []; parent = None } in

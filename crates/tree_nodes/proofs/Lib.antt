@@ -1,5 +1,6 @@
 pub mod KeptLaws
 pub mod RowLaws
+pub mod ShapeLaws
 pub mod WalkLaws
 pub mod FinishLaws
 pub mod EntryLaws

@@ -68,6 +68,20 @@ tree_at rows n d earlier l =
     let same : n ≡ 0 + n = omega arith in
     ap (λ (m : ℕ). get_or (trees_from [] rows) m no_tree) same ∙ tree_at-from [] rows n d earlier l
 
+-- rows that are added leave the trees of earlier rows
+pub tree_of-earlier : (rows : List Row) (row : Row) (n : ℕ) → n < length rows → tree_of (rows ++ row ∷ []) n ≡ tree_of rows n
+unfolding tree_of
+tree_of-earlier rows row n l =
+    let many = length-trees_of rows in
+    ap (λ (ts : List Tree). get_or ts n no_tree) (trees_of-push rows row) ∙ get_or_append_left (trees_of rows) (tree_over (trees_of rows) row ∷ []) no_tree n (omega arith)
+
+-- a row stands for the tree over those of its kids
+pub tree_of-pushed : (rows : List Row) (row : Row) → tree_of (rows ++ row ∷ []) (length rows) ≡ record { node = row.node; kids = pack (map (tree_of rows) row.kids) }
+unfolding tree_of
+tree_of-pushed rows row =
+    let t = tree_over (trees_of rows) row in
+    ap (λ (ts : List Tree). get_or ts (length rows) no_tree) (trees_of-push rows row) ∙ ap (λ (n : ℕ). get_or (trees_of rows ++ t ∷ []) n no_tree) (sym (length-trees_of rows)) ∙ get_or-append_seam (trees_of rows) t [] no_tree
+
 -- ---- sizes
 
 pub total-is : (made : List Tree) (kids : List ℕ) → All (λ k. k < length made) kids → total (map count_of made) kids ≡ size (pack (picked made kids))
@@ -212,3 +226,15 @@ pub rows-add-by : (names names' text kids kids' below : List ℕ) (rows rows' : 
     → rows_in names' kids' rows' ≡ now ++ row_with row.label.kind row.label.pos row.label.end_line name below ∷ []
 rows-add-by names names' text kids kids' below rows rows' row name now ne ke re view built s1 s2 s3 s4 te named =
     rw (ne, ke, re) (rows-add names text kids below rows row name built s1 s2 s3 s4 te named ∙ ap (λ (rs : List Row). rs ++ row_with row.label.kind row.label.pos row.label.end_line name below ∷ []) view)
+
+pub length-view : (names kids : List ℕ) (rows : List BuiltRow) (now : List Row) → rows_in names kids rows ≡ now → length now ≡ length rows
+length-view names kids rows now e = ap length (sym e) ∙ length-map rows (row_in names kids)
+
+pub same-tree : (seen now : List Row) (n : ℕ) → seen ≡ now → tree_of seen n ≡ tree_of now n
+same-tree seen now n e = ap (λ (rs : List Row). tree_of rs n) e
+
+pub earlier-tree : (seen now : List Row) (row : Row) (n : ℕ) → seen ≡ now ++ row ∷ [] → n < length now → tree_of seen n ≡ tree_of now n
+earlier-tree seen now row n e l = same-tree seen (now ++ row ∷ []) n e ∙ tree_of-earlier now row n l
+
+pub new-tree : (seen now : List Row) (row : Row) (n : ℕ) → seen ≡ now ++ row ∷ [] → n ≡ length now → tree_of seen n ≡ record { node = row.node; kids = pack (map (tree_of now) row.kids) }
+new-tree seen now row n e f = same-tree seen (now ++ row ∷ []) n e ∙ ap (tree_of (now ++ row ∷ [])) f ∙ tree_of-pushed now row

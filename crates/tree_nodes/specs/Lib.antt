@@ -5,5 +5,8 @@ pub mod Finished
 pub mod Finishing
 pub mod Kept
 pub mod Rows
+pub mod Shaped
+pub mod Shapes
+pub mod Sorts
 pub mod Trees
 pub mod Walked

@@ -1,6 +1,7 @@
 // The builder: rows as they are taken.
-ghost use Rattle.std.specs.Prelude.{◌≡◌, ◌<◌, ◌+◌, ◌++◌, ◌∷◌, [], length, option_copied, unwrap_or, string_bytes, All, IfOk, OnOk, OnErr};
+ghost use Rattle.std.specs.Prelude.{◌≡◌, ℕ, map, ◌<◌, ◌+◌, ◌++◌, ◌∷◌, [], length, option_copied, unwrap_or, string_bytes, All, IfOk, OnOk, OnErr};
 ghost use Rattle.std.specs.Str.{IsUtf8};
+ghost use Rattle.tree_nodes.specs.Trees.{pack};
 ghost use Rattle.tree_nodes.specs.Rows.{row_with, tree_of};
 ghost use Rattle.tree_nodes.specs.Built.{rows_in, sizes_in, total, IsBuilt};
 
@@ -32,6 +33,7 @@ pub struct TreeBuilder {
 impl Model for TreeBuilder {
     ghost use Rattle.std.specs.Prelude.{List, string_bytes};
     ghost use Rattle.std.specs.Str.{IsUtf8};
+ghost use Rattle.tree_nodes.specs.Trees.{pack};
 ghost use Rattle.tree_nodes.specs.Rows.{Row};
 
     ghost Value = { List Row };
@@ -63,6 +65,8 @@ impl TreeBuilder {
         ensures number { IfOk result (λ n. n ≡ length self.old) }
         ensures ok { OnOk result (self.new ≡ self.old ++ row_with kind pos end_line (option_copied name.entry) kids.now ∷ []) }
         ensures err { OnErr result (self.new ≡ self.old) }
+        ensures earlier { (n : ℕ) → n < length self.old → tree_of self.new n ≡ tree_of self.old n }
+        ensures tree { IfOk result (λ n. tree_of self.new n ≡ record { node = record { kind = kind; pos = pos; end_line = end_line; name = option_copied name.entry }; kids = pack (map (tree_of self.old) kids.now) }) }
     {
         let size = size_over(self.rows.as_slice(), kids)?;
         let number = row_number(self.rows.len())?;

@@ -44,6 +44,7 @@ impl Tree {
     ghost use Rattle.tree_nodes.specs.Trees.{count_of, node_at, kids_at, parent_at};
     ghost use Rattle.tree_nodes.specs.Kept.{number_of};
     ghost use Rattle.tree_nodes.specs.Finished.{IsRowOf};
+    ghost use Rattle.tree_nodes.specs.Shaped.{IsShaped, HasShape};
     ghost use Rattle.tree_nodes.specs.Walked.{ids_from};
 
     /// How many nodes the tree has.
@@ -68,6 +69,7 @@ impl Tree {
         ensures made { All (λ k. k.0 < count_of self.now) result.now }
         ensures parent { All (λ k. parent_at self.now k.0 ≡ Some n.0) result.now }
         ensures ascending { IsStrictlyIncreasing (kids_at self.now n.0) }
+        ensures shaped { IsShaped self.now → HasShape (node_at self.now n.0) (map (λ k. (node_at self.now k).kind) (kids_at self.now n.0)) }
     {
         let span = self.rows[n.0 as usize].kids;
         kids_within(self.kids.as_slice(), span)

@@ -4,6 +4,7 @@ use Rattle.tree_nodes.specs.Trees.{count_of, parent_at}
 use Rattle.tree_nodes.specs.Kept.{within, number_of, FitsIn}
 use Rattle.tree_nodes.proofs.Reading.{count-is, fits-is, kids-is, all_kids, all-of_numbers}
 use Rattle.tree_nodes.proofs.EntryLaws.{kids-behind, kids-made, kids-parent, kids-ascend}
+use Rattle.tree_nodes.proofs.ShapeLaws.{shaped-at}
 use Rattle.tree_nodes.proofs.tree.Tree.kids.Goals as goal
 
 pub index-requires : goal.index-requires
@@ -34,3 +35,6 @@ returns-clause-parent c =
 
 pub returns-clause-ascending : goal.returns-clause-ascending
 returns-clause-ascending c = kids-ascend _ _ c.requires
+
+pub returns-clause-shaped : goal.returns-clause-shaped
+returns-clause-shaped c = λ shaped. shaped-at _ _ shaped c.requires
