@@ -132,7 +132,7 @@ kid : (ts : Trees) (n : ℕ) (p : Option ℕ) (k : ℕ) (e : Entry) (j : ℕ) �
 kid none n p k e j h i = absurd h
 kid (tree node kids rest) n p k e j h i =
     at-cases node kids rest n p k e (λ here. kid-first node kids rest n p k e j here i) (λ there. kid-below node kids rest n p k j (kid kids (n + 1) (Some n) k e j there i))
-      (λ there. kid-behind node kids rest n p k j (kid rest (n + (1 + size kids)) p k e j there i)) h
+    (λ there. kid-behind node kids rest n p k j (kid rest (n + (1 + size kids)) p k e j there i)) h
 
 -- ---- parents
 
@@ -152,19 +152,19 @@ IsPlaced n p ts k e = (IsIn k (numbers n ts) × (e.parent ≡ p)) ⊎ Below n p 
 placed-below : (node : Node) (kids rest : Trees) (n : ℕ) (p : Option ℕ) (k : ℕ) (e : Entry) → n < k → IsPlaced (n + 1) (Some n) kids k e → IsPlaced n p (tree node kids rest) k e
 placed-below node kids rest n p k e low h =
     ⊎_elim (λ root. inr (record { number = n; entry = entry_of n p node kids; before = low; is_at = inl (refl, refl); parent = root.1; is_kid = root.0 }))
-      (λ b. inr (record { number = b.number; entry = b.entry; before = b.before; is_at = at-kids node kids rest n p b.number b.entry b.is_at; parent = b.parent; is_kid = b.is_kid })) h
+    (λ b. inr (record { number = b.number; entry = b.entry; before = b.before; is_at = at-kids node kids rest n p b.number b.entry b.is_at; parent = b.parent; is_kid = b.is_kid })) h
 
 placed-behind : (node : Node) (kids rest : Trees) (n : ℕ) (p : Option ℕ) (k : ℕ) (e : Entry) → IsPlaced (n + (1 + size kids)) p rest k e → IsPlaced n p (tree node kids rest) k e
 placed-behind node kids rest n p k e h =
     ⊎_elim (λ root. inl (inr root.0, root.1))
-      (λ b. inr (record { number = b.number; entry = b.entry; before = b.before; is_at = at-rest node kids rest n p b.number b.entry b.is_at; parent = b.parent; is_kid = b.is_kid })) h
+    (λ b. inr (record { number = b.number; entry = b.entry; before = b.before; is_at = at-rest node kids rest n p b.number b.entry b.is_at; parent = b.parent; is_kid = b.is_kid })) h
 
 placed : (ts : Trees) (n : ℕ) (p : Option ℕ) (k : ℕ) (e : Entry) → IsAt n (entries_from n p ts) k e → IsPlaced n p ts k e
 placed none n p k e h = absurd h
 placed (tree node kids rest) n p k e h =
     at-cases node kids rest n p k e (λ here. inl (inl here.0, sym (ap (λ (x : Entry). x.parent) here.1)))
-      (λ there. placed-below node kids rest n p k e (omega (arith, at-least (n + 1) (entries_from (n + 1) (Some n) kids) k e there)) (placed kids (n + 1) (Some n) k e there))
-      (λ there. placed-behind node kids rest n p k e (placed rest (n + (1 + size kids)) p k e there)) h
+    (λ there. placed-below node kids rest n p k e (omega (arith, at-least (n + 1) (entries_from (n + 1) (Some n) kids) k e there)) (placed kids (n + 1) (Some n) k e there))
+    (λ there. placed-behind node kids rest n p k e (placed rest (n + (1 + size kids)) p k e there)) h
 
 -- ---- siblings
 
@@ -179,7 +179,7 @@ kids-are : (ts : Trees) (n : ℕ) (p : Option ℕ) (k : ℕ) (e : Entry) → IsA
 kids-are none n p k e h = absurd h
 kids-are (tree node kids rest) n p k e h =
     at-cases node kids rest n p k e (λ here. (kids, sym (ap (λ (x : Entry). x.kids) here.1) ∙ ap (λ (m : ℕ). numbers (m + 1) kids) (sym here.0)))
-      (λ there. kids-are kids (n + 1) (Some n) k e there) (λ there. kids-are rest (n + (1 + size kids)) p k e there) h
+    (λ there. kids-are kids (n + 1) (Some n) k e there) (λ there. kids-are rest (n + (1 + size kids)) p k e there) h
 
 -- ---- a tree
 
@@ -230,8 +230,10 @@ parent-cases t n l = ⊎_elim root under (placed (alone t) 0 None n (entry_at t 
   where
     only : IsIn n (numbers 0 (alone t)) → n ≡ 0
     only h = ⊎_elim (λ e. e) (λ no. absurd no) h
+
     root : IsIn n (numbers 0 (alone t)) × (parent_at t n ≡ None) → ((n ≡ 0) × (parent_at t n ≡ None)) ⊎ ((p : ℕ) × (parent_at t n ≡ Some p) × (p < n) × Contains (kids_at t p) n)
     root h = inl (only h.0, h.1)
+
     under : Below 0 None (alone t) n (entry_at t n) → ((n ≡ 0) × (parent_at t n ≡ None)) ⊎ ((p : ℕ) × (parent_at t n ≡ Some p) × (p < n) × Contains (kids_at t p) n)
     under b = inr (b.number, b.parent, b.before, subst (λ (e : Entry). Contains e.kids n) (sym (entry-at t b.number b.entry b.is_at)) (contains-of_in n b.entry.kids b.is_kid))
 
@@ -248,10 +250,11 @@ under-of t n zero l kept some = absurd (some refl)
 under-of t n (suc a) l kept some =
     let less : suc a - 1 ≡ a = omega arith in
     let at_a : (a < n) × Contains (kids_at t a) n =
-      ⊎_elim (λ root. absurd (no a (kept ∙ root.1))) (λ under. let same = inner a under.0 (kept ∙ under.1) in (omega (arith, under.2, same), subst (λ (p : ℕ). Contains (kids_at t p) n) (sym same) under.3)) (parent-cases t n l) in
+    ⊎_elim (λ root. absurd (no a (kept ∙ root.1))) (λ under. let same = inner a under.0 (kept ∙ under.1) in (omega (arith, under.2, same), subst (λ (p : ℕ). Contains (kids_at t p) n) (sym same) under.3)) (parent-cases t n l) in
     subst (λ (p : ℕ). (p < n) × Contains (kids_at t p) n) (sym less) at_a
   where
     no : (a : ℕ) → parent_in (suc a) ≡ None → ⊥
     no a e = cc
+
     inner : (a p : ℕ) → parent_in (suc a) ≡ Some p → a ≡ p
     inner a p e = cc

@@ -26,7 +26,7 @@ numbers_by-is made n (k ∷ ks) below =
     let here : k < length made = below 0 k (omega arith) in
     let first : get_or (map count_of made) k 0 ≡ count_of (get_or made k no_tree) = get_or-map count_of made k no_tree 0 here in
     ap (λ (m : ℕ). n ∷ numbers_by (map count_of made) (n + m) ks) first
-      ∙ ap (λ (ns : List ℕ). n ∷ ns) (numbers_by-is made (n + count_of (get_or made k no_tree)) ks (λ i d l. below (suc i) d (omega arith)))
+    ∙ ap (λ (ns : List ℕ). n ∷ ns) (numbers_by-is made (n + count_of (get_or made k no_tree)) ks (λ i d l. below (suc i) d (omega arith)))
 
 -- ---- what is still to be given out
 
@@ -44,8 +44,8 @@ pending-opened made n above p (k ∷ ks) open_ e =
     let end_ = pending made (n + (1 + size t.kids + size others)) open_ in
     let step : pending made (n + count_of t) (opened above ks ++ open_) ≡ rest ++ end_ = later ∙ ap (λ (m : ℕ). rest ++ pending made m open_) far in
     ap (λ (q : Option ℕ). entry_of n q t.node t.kids ∷ (inner ++ pending made (n + count_of t) (opened above ks ++ open_))) e
-      ∙ ap (λ (es : List Entry). entry_of n p t.node t.kids ∷ (inner ++ es)) step
-      ∙ ap (λ (es : List Entry). entry_of n p t.node t.kids ∷ es) (sym (append_assoc inner rest end_))
+    ∙ ap (λ (es : List Entry). entry_of n p t.node t.kids ∷ (inner ++ es)) step
+    ∙ ap (λ (es : List Entry). entry_of n p t.node t.kids ∷ es) (sym (append_assoc inner rest end_))
 
 -- a node is taken, and its kids are opened
 pub pending-taken : (made : List Tree) (n : ℕ) (next : Open) (open_ : List Open) (row : Row) → get_or made next.row no_tree ≡ tree_over made row
@@ -57,8 +57,8 @@ pending-taken made n next open_ row e =
     let far : n + count_of (tree_over made row) ≡ n + 1 + size below = omega arith in
     let kids = pending-opened made (n + 1) (n + 1) (Some n) row.kids open_ above_is in
     ap (λ (t : Tree). entries_at n p t ++ pending made (n + count_of t) open_) e
-      ∙ ap (λ (m : ℕ). entry_of n p row.node below ∷ (entries_from (n + 1) (Some n) below ++ pending made m open_)) far
-      ∙ ap (λ (es : List Entry). entry_of n p row.node below ∷ es) (sym kids)
+    ∙ ap (λ (m : ℕ). entry_of n p row.node below ∷ (entries_from (n + 1) (Some n) below ++ pending made m open_)) far
+    ∙ ap (λ (es : List Entry). entry_of n p row.node below ∷ es) (sym kids)
 
 pub pending-root : (rows : List Row) (root : ℕ) → pending (trees_of rows) 0 (record { row = root; above = 0 } ∷ []) ≡ entries (tree_of rows root)
 unfolding entries tree_of
@@ -102,7 +102,7 @@ below-made names kids rows built i row l e =
     let many : length (rows_in names kids rows) ≡ length rows = length-map rows (row_in names kids) in
     let trees_many : length (trees_of (rows_in names kids rows)) ≡ length (rows_in names kids rows) = length-trees_of (rows_in names kids rows) in
     subst (λ (r : BuiltRow). All (λ k. k < length (trees_of (rows_in names kids rows))) (within kids r.kids)) e
-      (all-weaker (length rows) (length (trees_of (rows_in names kids rows))) (within kids (get_or rows i row).kids) (omega arith) (kids-made names kids rows built i row l))
+    (all-weaker (length rows) (length (trees_of (rows_in names kids rows))) (within kids (get_or rows i row).kids) (omega arith) (kids-made names kids rows built i row l))
 
 row-fits : (names kids : List ℕ) (rows : List BuiltRow) → IsBuilt names kids rows → (i : ℕ) (row : BuiltRow) → i < length rows → get_or rows i row ≡ row → RowFits names kids row
 row-fits names kids rows built i row l e = subst (λ (r : BuiltRow). RowFits names kids r) e (built.fit i row l)
@@ -130,7 +130,7 @@ reverse-pushed stack next = reverse-append stack (next ∷ [])
 pub pending-step : (names kids : List ℕ) (rows : List BuiltRow) (next : Open) (out out' : List TreeRow) (numbered numbered' : List NodeId) (stack stack' : List Open)
     → IsBuilt names kids rows → next.row < length rows → (g : GivesOut rows kids next out out' numbered numbered' stack stack')
     → pending (trees_of (rows_in names kids rows)) (length out) (reverse (stack ++ next ∷ []))
-      ≡ record { node = node_in names g.row.label; kids = map number_of g.ids; parent = parent_in next.above } ∷ pending (trees_of (rows_in names kids rows)) (length out') (reverse stack')
+    ≡ record { node = node_in names g.row.label; kids = map number_of g.ids; parent = parent_in next.above } ∷ pending (trees_of (rows_in names kids rows)) (length out') (reverse stack')
 pending-step names kids rows next out out' numbered numbered' stack stack' built here g =
     let seen = rows_in names kids rows in
     let made = trees_of seen in
@@ -141,13 +141,13 @@ pending-step names kids rows next out out' numbered numbered' stack stack' built
     let tree_is : get_or made next.row no_tree ≡ tree_over made row = tree_at seen next.row row built.earlier there ∙ ap (tree_over made) row_is in
     let below : All (λ k. k < length made) row.kids = below-made names kids rows built next.row g.row here g.is_row in
     let ids : map number_of g.ids ≡ numbers (length out + 1) (pack (picked made row.kids)) =
-      g.ids_are ∙ ap (λ (s : List ℕ). numbers_by s (length out + 1) row.kids) built.sizes ∙ numbers_by-is made (length out + 1) row.kids below in
+    g.ids_are ∙ ap (λ (s : List ℕ). numbers_by s (length out + 1) row.kids) built.sizes ∙ numbers_by-is made (length out + 1) row.kids below in
     let longer : length out' ≡ length out + 1 = ap length g.out_is ∙ length-append out (record { label = g.row.label; kids = g.span; above = next.above } ∷ []) in
     ap (pending made (length out)) (reverse-pushed stack next)
-      ∙ pending-taken made (length out) next (reverse stack) row tree_is
-      ∙ ap (λ (ks : List ℕ). record { node = row.node; kids = ks; parent = parent_in next.above } ∷ pending made (length out + 1) (opened (length out + 1) row.kids ++ reverse stack)) (sym ids)
-      ∙ ap (λ (os : List Open). record { node = row.node; kids = map number_of g.ids; parent = parent_in next.above } ∷ pending made (length out + 1) os) (sym g.stack_is)
-      ∙ ap (λ (n : ℕ). record { node = row.node; kids = map number_of g.ids; parent = parent_in next.above } ∷ pending made n (reverse stack')) (sym longer)
+    ∙ pending-taken made (length out) next (reverse stack) row tree_is
+    ∙ ap (λ (ks : List ℕ). record { node = row.node; kids = ks; parent = parent_in next.above } ∷ pending made (length out + 1) (opened (length out + 1) row.kids ++ reverse stack)) (sym ids)
+    ∙ ap (λ (os : List Open). record { node = row.node; kids = map number_of g.ids; parent = parent_in next.above } ∷ pending made (length out + 1) os) (sym g.stack_is)
+    ∙ ap (λ (n : ℕ). record { node = row.node; kids = map number_of g.ids; parent = parent_in next.above } ∷ pending made n (reverse stack')) (sym longer)
 
 pub finishing-step : (names kids : List ℕ) (rows : List BuiltRow) (root : Tree) (next : Open) (out out' : List TreeRow) (numbered numbered' : List NodeId) (all stack stack' : List Open)
     → IsBuilt names kids rows → all ≡ stack ++ next ∷ [] → GivesOut rows kids next out out' numbered numbered' stack stack'
@@ -164,7 +164,7 @@ finishing-step names kids rows root next out out' numbered numbered' all stack s
     let rest = pending made (length out') (reverse stack') in
     let x_is : entry_in names (numbered ++ g.ids) new ≡ x = ap (λ (ns : List NodeId). record { node = node_in names g.row.label; kids = map number_of ns; parent = parent_in next.above }) kids_are in
     let given : entries_in names (numbered ++ g.ids) (out ++ new ∷ []) ≡ entries_in names numbered out ++ x ∷ [] =
-      map-append (entry_in names (numbered ++ g.ids)) out (new ∷ []) ∙ pushed (entries-kept names numbered g.ids out so_far.fit) x_is in
+    map-append (entry_in names (numbered ++ g.ids)) out (new ∷ []) ∙ pushed (entries-kept names numbered g.ids out so_far.fit) x_is in
     let given' : entries_in names numbered' out' ≡ entries_in names numbered out ++ x ∷ [] = same_in g.numbered_is g.out_is ∙ given in
     let fit_new : NodeFits names (numbered ++ g.ids) new = record { name_fits = (row-fits names kids rows built next.row g.row here g.is_row).name_fits; kids_fit = record { ordered = omega (arith, g.starts, g.ends); ends = omega (arith, g.ends, length-append numbered g.ids) } } in
     let longer : length out' ≡ length out + 1 = ap length g.out_is ∙ length-append out (new ∷ []) in
@@ -173,15 +173,17 @@ finishing-step names kids rows root next out out' numbered numbered' all stack s
       fit = fit_in g.numbered_is g.out_is (All-push (NodeFits names (numbered ++ g.ids)) out new (nodes-fit-kept names numbered g.ids out so_far.fit) fit_new);
       waiting = waiting-step (length made) (length out + 1) (within kids g.row.kids) stack stack' g.stack_is below (rest-waits (length made) next (reverse stack) waits);
       preorder = ap (λ (es : List Entry). es ++ rest) given' ∙ append_assoc (entries_in names numbered out) (x ∷ []) rest
-        ∙ ap (λ (es : List Entry). entries_in names numbered out ++ es) (sym (pending-step names kids rows next out out' numbered numbered' stack stack' built here g))
-        ∙ ap (λ (os : List Open). entries_in names numbered out ++ pending made (length out) (reverse os)) (sym all_is) ∙ so_far.preorder;
-      few = omega arith
+          ∙ ap (λ (es : List Entry). entries_in names numbered out ++ es) (sym (pending-step names kids rows next out out' numbered numbered' stack stack' built here g))
+          ∙ ap (λ (os : List Open). entries_in names numbered out ++ pending made (length out) (reverse os)) (sym all_is) ∙ so_far.preorder;
+      few = omega arith;
     }
   where
     pushed : {xs ys : List Entry} {a b : Entry} → xs ≡ ys → a ≡ b → xs ++ a ∷ [] ≡ ys ++ b ∷ []
     pushed e f = rw (e, f) refl
+
     same_in : {ns ns' : List NodeId} {rs rs' : List TreeRow} → ns ≡ ns' → rs ≡ rs' → entries_in names ns rs ≡ entries_in names ns' rs'
     same_in e f = rw (e, f) refl
+
     fit_in : {ns ns' : List NodeId} {rs rs' : List TreeRow} → ns ≡ ns' → rs ≡ rs' → All (NodeFits names ns') rs' → All (NodeFits names ns) rs
     fit_in e f h = rw (e, f) h
 
@@ -192,7 +194,7 @@ pub finishing-start : (names kids : List ℕ) (rows : List BuiltRow) (root : ℕ
 finishing-start names kids rows root numbered out stack ne oe se l =
     let many : length (trees_of (rows_in names kids rows)) ≡ length (rows_in names kids rows) = length-trees_of (rows_in names kids rows) in
     let first : IsFinishing (trees_of (rows_in names kids rows)) (tree_of (rows_in names kids rows) root) names [] [] (record { row = root; above = 0 } ∷ []) =
-      record { fit = λ k d h. absurd (omega arith); waiting = all_of_one (λ o. o.row < length (trees_of (rows_in names kids rows))) (record { row = root; above = 0 }) (omega arith); preorder = pending-root (rows_in names kids rows) root; few = lit< tt } in
+    record { fit = λ k d h. absurd (omega arith); waiting = all_of_one (λ o. o.row < length (trees_of (rows_in names kids rows))) (record { row = root; above = 0 }) (omega arith); preorder = pending-root (rows_in names kids rows) root; few = lit< tt } in
     rw (ne, oe, se) first
 
 pub finished-preorder : (made : List Tree) (root : Tree) (names : List ℕ) (numbered : List NodeId) (out : List TreeRow) (stack : List Open) → stack ≡ [] → IsFinishing made root names numbered out stack → entries_in names numbered out ≡ entries root
@@ -236,6 +238,6 @@ smaller-by names kids kids' rows rows' root next out out' numbered numbered' all
     let x : Entry = record { node = node_in names g'.row.label; kids = map number_of g'.ids; parent = parent_in next.above } in
     let rest = pending made (length out') (reverse stack') in
     let step : length (pending made (length out) (reverse all)) ≡ length (x ∷ rest) =
-      ap (λ (os : List Open). length (pending made (length out) (reverse os))) all_is ∙ ap length (pending-step names kids rows next out out' numbered numbered' stack stack' built here g') in
+    ap (λ (os : List Open). length (pending made (length out) (reverse os))) all_is ∙ ap length (pending-step names kids rows next out out' numbered numbered' stack stack' built here g') in
     let one : length rest < length (x ∷ rest) = omega arith in
     subst (λ (n : ℕ). length rest < n) (sym step) one

@@ -53,6 +53,7 @@ boundary-append xs ys i here u =
     inner l =
         let same = get_or_append_left xs ys 0 i l in
         (omega (arith, length-append xs ys), λ _ high. subst (λ (b : ℕ). 192 ≤ b) (sym same) (here.1 l (subst (λ (b : ℕ). 128 ≤ b) same high)))
+
     at_end : i ≡ length xs → IsCharBoundary (xs ++ ys) i
     at_end e = subst (λ (j : ℕ). IsCharBoundary (xs ++ ys) j) (sym e) (IsCharBoundary-at_seam (xs ++ ys) xs ys refl u)
 

@@ -112,7 +112,7 @@ built-grown names more kids further rows u built =
     record {
       fit = fit-kept names more kids further rows u built.fit;
       earlier = subst (λ (rs : List Row). AreEarlier 0 rs) same built.earlier;
-      sizes = subst (λ (rs : List Row). sizes_in rows ≡ map count_of (trees_of rs)) same built.sizes
+      sizes = subst (λ (rs : List Row). sizes_in rows ≡ map count_of (trees_of rs)) same built.sizes;
     }
 
 pub earlier-push : (n m : ℕ) (rows : List Row) (row : Row) → m ≡ n + length rows → AreEarlier n rows → All (λ k. k < m) row.kids → AreEarlier n (rows ++ row ∷ [])
@@ -134,7 +134,7 @@ built-push names kids rows row built fits below sized =
       fit = All-push (RowFits names kids) rows row built.fit fits;
       earlier = subst (λ (rs : List Row). AreEarlier 0 rs) (sym longer) (earlier-push 0 (length rows) seen new (omega arith) built.earlier below);
       sizes = map-append (λ (r : BuiltRow). r.size) rows (row ∷ []) ∙ both (sizes_in rows) (map count_of (trees_of seen)) row.size (count_of (tree_over (trees_of seen) new)) built.sizes size_is
-        ∙ sym (map-append count_of (trees_of seen) (tree_over (trees_of seen) new ∷ [])) ∙ ap (map count_of) (sym (trees_of-push seen new)) ∙ ap (λ (rs : List Row). map count_of (trees_of rs)) (sym longer)
+          ∙ sym (map-append count_of (trees_of seen) (tree_over (trees_of seen) new ∷ [])) ∙ ap (map count_of) (sym (trees_of-push seen new)) ∙ ap (λ (rs : List Row). map count_of (trees_of rs)) (sym longer);
     }
   where
     both : (xs ys : List ℕ) (x y : ℕ) → xs ≡ ys → x ≡ y → xs ++ x ∷ [] ≡ ys ++ y ∷ []
@@ -160,9 +160,9 @@ fits-add names text kids below row u ns ne ks ke =
       name_fits = record {
         ordered = omega arith;
         starts = subst (λ (i : ℕ). IsCharBoundary (names ++ text) i) (sym ns) (IsCharBoundary-at_seam (names ++ text) names text refl u);
-        ends = subst (λ (i : ℕ). IsCharBoundary (names ++ text) i) end_is (IsCharBoundary-end (names ++ text))
+        ends = subst (λ (i : ℕ). IsCharBoundary (names ++ text) i) end_is (IsCharBoundary-end (names ++ text));
       };
-      kids_fit = record { ordered = omega arith; ends = omega arith }
+      kids_fit = record { ordered = omega arith; ends = omega arith };
     }
 
 pub built-add : (names text kids below : List ℕ) (rows : List BuiltRow) (row : BuiltRow) → IsBuilt names kids rows → IsUtf8 text → row.label.name.start ≡ length names → row.label.name.end ≡ length names + length text
@@ -171,7 +171,7 @@ pub built-add : (names text kids below : List ℕ) (rows : List BuiltRow) (row :
 built-add names text kids below rows row built u ns ne ks ke earlier sized =
     let here : within (kids ++ below) row.kids ≡ below = within-seam kids below row.kids ks ke in
     built-push (names ++ text) (kids ++ below) rows row (built-grown names text kids below rows u built) (fits-add names text kids below row u ns ne ks ke)
-      (subst (λ (xs : List ℕ). All (λ k. k < length rows) xs) (sym here) earlier) (subst (λ (xs : List ℕ). row.size ≡ 1 + total (sizes_in rows) xs) (sym here) sized)
+    (subst (λ (xs : List ℕ). All (λ k. k < length rows) xs) (sym here) earlier) (subst (λ (xs : List ℕ). row.size ≡ 1 + total (sizes_in rows) xs) (sym here) sized)
 
 pub rows-add : (names text kids below : List ℕ) (rows : List BuiltRow) (row : BuiltRow) (name : Option (List ℕ)) → IsBuilt names kids rows → row.label.name.start ≡ length names → row.label.name.end ≡ length names + length text
     → row.kids.start ≡ length kids → row.kids.end ≡ length kids + length below → text ≡ unwrap_or name [] → row.label.is_named ≡ is_some name
@@ -185,8 +185,10 @@ rows-add names text kids below rows row name built ns ne ks ke te named =
     rebuilt : (o : Option (List ℕ)) → cond (is_some o) (Some (unwrap_or o [])) None ≡ o
     rebuilt None = refl
     rebuilt (Some s) = refl
+
     made : {o : Option (List ℕ)} {xs : List ℕ} → name_in (names ++ text) row.label ≡ o → within (kids ++ below) row.kids ≡ xs → row_in (names ++ text) (kids ++ below) row ≡ row_with row.label.kind row.label.pos row.label.end_line o xs
     made e f = rw (e, f) refl
+
     joined : {xs ys : List Row} {x y : Row} → xs ≡ ys → x ≡ y → xs ++ x ∷ [] ≡ ys ++ y ∷ []
     joined e f = rw (e, f) refl
 

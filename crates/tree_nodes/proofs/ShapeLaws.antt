@@ -20,9 +20,10 @@ kinds-moved n m es fs move (j ∷ js) (kind ∷ kinds) h = ((h.0.0, move j h.0.0
 
 kinds-top : (ts : Trees) (n : ℕ) (p : Option ℕ) → KindsAt n (entries_from n p ts) (numbers n ts) (kinds_of ts)
 kinds-top none n p = tt
-kinds-top (tree node kids rest) n p =
-    ((entry_of n p node kids, inl (refl, refl), refl),
-      kinds-moved (n + (1 + size kids)) n (entries_from (n + (1 + size kids)) p rest) (entries_from n p (tree node kids rest)) (λ k e h. at-rest node kids rest n p k e h) (numbers (n + (1 + size kids)) rest) (kinds_of rest) (kinds-top rest (n + (1 + size kids)) p))
+kinds-top (tree node kids rest) n p = (
+  (entry_of n p node kids, inl (refl, refl), refl),
+  kinds-moved (n + (1 + size kids)) n (entries_from (n + (1 + size kids)) p rest) (entries_from n p (tree node kids rest)) (λ k e h. at-rest node kids rest n p k e h) (numbers (n + (1 + size kids)) rest) (kinds_of rest) (kinds-top rest (n + (1 + size kids)) p),
+)
 
 -- a node in shape, and the kinds of its kids among the entries
 record ShapedAt (n : ℕ) (es : List Entry) (e : Entry) : Type 0 where
@@ -36,14 +37,14 @@ shaped-moved n m es fs e move h = record { kinds = h.kinds; shaped = h.shaped; k
 shaped-here : (node : Node) (kids rest : Trees) (n : ℕ) (p : Option ℕ) (e : Entry) → HasShape node (kinds_of kids) → entry_of n p node kids ≡ e → ShapedAt n (entries_from n p (tree node kids rest)) e
 shaped-here node kids rest n p e shaped same =
     subst (λ (f : Entry). ShapedAt n (entries_from n p (tree node kids rest)) f) same
-      (record { kinds = kinds_of kids; shaped = shaped; kids = kinds-moved (n + 1) n (entries_from (n + 1) (Some n) kids) (entries_from n p (tree node kids rest)) (λ k f h. at-kids node kids rest n p k f h) (numbers (n + 1) kids) (kinds_of kids) (kinds-top kids (n + 1) (Some n)) })
+    (record { kinds = kinds_of kids; shaped = shaped; kids = kinds-moved (n + 1) n (entries_from (n + 1) (Some n) kids) (entries_from n p (tree node kids rest)) (λ k f h. at-kids node kids rest n p k f h) (numbers (n + 1) kids) (kinds_of kids) (kinds-top kids (n + 1) (Some n)) })
 
 shaped-entry : (ts : Trees) (n : ℕ) (p : Option ℕ) (k : ℕ) (e : Entry) → AreShaped ts → IsAt n (entries_from n p ts) k e → ShapedAt n (entries_from n p ts) e
 shaped-entry none n p k e shaped h = absurd h
 shaped-entry (tree node kids rest) n p k e shaped h =
     at-cases node kids rest n p k e (λ here. shaped-here node kids rest n p e shaped.0 here.1)
-      (λ there. shaped-moved (n + 1) n (entries_from (n + 1) (Some n) kids) (entries_from n p (tree node kids rest)) e (λ j f i. at-kids node kids rest n p j f i) (shaped-entry kids (n + 1) (Some n) k e shaped.1 there))
-      (λ there. shaped-moved (n + (1 + size kids)) n (entries_from (n + (1 + size kids)) p rest) (entries_from n p (tree node kids rest)) e (λ j f i. at-rest node kids rest n p j f i) (shaped-entry rest (n + (1 + size kids)) p k e shaped.2 there)) h
+    (λ there. shaped-moved (n + 1) n (entries_from (n + 1) (Some n) kids) (entries_from n p (tree node kids rest)) e (λ j f i. at-kids node kids rest n p j f i) (shaped-entry kids (n + 1) (Some n) k e shaped.1 there))
+    (λ there. shaped-moved (n + (1 + size kids)) n (entries_from (n + (1 + size kids)) p rest) (entries_from n p (tree node kids rest)) e (λ j f i. at-rest node kids rest n p j f i) (shaped-entry rest (n + (1 + size kids)) p k e shaped.2 there)) h
 
 kinds-are : (t : Tree) (js : List ℕ) (kinds : List Kind) → KindsAt 0 (entries_from 0 None (alone t)) js kinds → map (λ j. (node_at t j).kind) js ≡ kinds
 kinds-are t [] [] h = refl

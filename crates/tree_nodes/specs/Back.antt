@@ -19,6 +19,7 @@ left_over [] ts = ts
 left_over (k ∷ ks) none = none
 left_over (k ∷ ks) (tree node kids rest) = left_over ks rest
 
+-- the trees whose nodes in preorder these are
 abbrev pub back : List Entry → Trees
 back [] = none
 back (e ∷ es) = tree e.node (taken e.kids (back es)) (left_over e.kids (back es))
@@ -27,18 +28,22 @@ back (e ∷ es) = tree e.node (taken e.kids (back es)) (left_over e.kids (back e
 abbrev pub no_node : Node
 no_node = record { kind = kinds.Module; pos = record { line = 0; col = 0 }; end_line = 0; name = None }
 
+-- a tree of that
 abbrev pub no_tree : Tree
 no_tree = record { node = no_node; kids = none }
 
+-- the first of some trees
 abbrev pub first_of : Trees → Tree
 first_of none = no_tree
 first_of (tree node kids rest) = record { node = node; kids = kids }
 
+-- the tree whose nodes in preorder these are
 unfoldable pub tree_from : List Entry → Tree
 tree_from es = first_of (back es)
 
 -- ---- it undoes the preorder
 
+-- trees behind others
 abbrev pub joined : Trees → Trees → Trees
 joined none us = us
 joined (tree node kids rest) us = tree node kids (joined rest us)
@@ -61,13 +66,13 @@ back-entries_from (tree node kids rest) n parent es =
     let below = entries_from (n + 1) (Some n) kids in
     let behind = entries_from (n + (1 + size kids)) parent rest in
     grafted node kids rest (joined rest (back es)) (n + 1) (back ((below ++ behind) ++ es))
-      (ap back (append_assoc below behind es) ∙ back-entries_from kids (n + 1) (Some n) (behind ++ es) ∙ ap (joined kids) (back-entries_from rest (n + (1 + size kids)) parent es))
+    (ap back (append_assoc below behind es) ∙ back-entries_from kids (n + 1) (Some n) (behind ++ es) ∙ ap (joined kids) (back-entries_from rest (n + (1 + size kids)) parent es))
 
 back-entries_at : (t : Tree) (n : ℕ) (parent : Option ℕ) → back (entries_at n parent t) ≡ tree t.node t.kids none
 back-entries_at t n parent =
     let below = entries_from (n + 1) (Some n) t.kids in
     grafted t.node t.kids none none (n + 1) (back below)
-      (ap back (sym (append-nil below)) ∙ back-entries_from t.kids (n + 1) (Some n) [])
+    (ap back (sym (append-nil below)) ∙ back-entries_from t.kids (n + 1) (Some n) [])
 
 pub tree_from-entries : (t : Tree) → tree_from (entries t) ≡ t
 unfolding tree_from entries

@@ -5,9 +5,11 @@ use Rattle.tree_nodes.specs.Trees.{count_of}
 use Rattle.tree_nodes.specs.Rows.{Row, trees_of}
 use Rattle.tree_nodes.specs.Kept.{within, node_in, FitsIn, IsTextIn}
 
+-- a row as it is kept, over all names and kids
 abbrev pub row_in : List ℕ → List ℕ → BuiltRow → Row
 row_in names kids row = record { node = node_in names row.label; kids = within kids row.kids }
 
+-- all rows as they are kept
 abbrev pub rows_in : List ℕ → List ℕ → List BuiltRow → List Row
 rows_in names kids rows = map (row_in names kids) rows
 

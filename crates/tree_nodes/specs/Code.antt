@@ -16,12 +16,12 @@ pos_code = code_by (ℕ × ℕ) (coded× coded_ℕ coded_ℕ) (λ p. (p.line, p.
 abbrev pub node_code : Coded Node
 node_code =
     code_by (Kind × (Pos × (ℕ × Option (List ℕ)))) (coded× kind_code (coded× pos_code (coded× coded_ℕ (coded_option (coded_list coded_ℕ)))))
-      (λ n. (n.kind, (n.pos, (n.end_line, n.name)))) (λ p. record { kind = p.0; pos = p.1.0; end_line = p.1.1.0; name = p.1.1.1 }) (λ _. refl)
+    (λ n. (n.kind, (n.pos, (n.end_line, n.name)))) (λ p. record { kind = p.0; pos = p.1.0; end_line = p.1.1.0; name = p.1.1.1 }) (λ _. refl)
 
 abbrev pub entry_code : Coded Entry
 entry_code =
     code_by (Node × (List ℕ × Option ℕ)) (coded× node_code (coded× (coded_list coded_ℕ) (coded_option coded_ℕ)))
-      (λ e. (e.node, (e.kids, e.parent))) (λ p. record { node = p.0; kids = p.1.0; parent = p.1.1 }) (λ _. refl)
+    (λ e. (e.node, (e.kids, e.parent))) (λ p. record { node = p.0; kids = p.1.0; parent = p.1.1 }) (λ _. refl)
 
 abbrev pub tree_code : Coded Tree
 tree_code = code_by (List Entry) (coded_list entry_code) entries tree_from tree_from-entries

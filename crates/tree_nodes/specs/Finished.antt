@@ -6,9 +6,11 @@ use Rattle.tree_nodes.specs.Trees.{Tree, Entry, entries, node_at, parent_at}
 use Rattle.tree_nodes.specs.Back.{tree_from}
 use Rattle.tree_nodes.specs.Kept.{within, node_in, FitsIn, IsTextIn, number_of, parent_in}
 
+-- a node as it is kept, over all names and kids
 abbrev pub entry_in : List ℕ → List NodeId → TreeRow → Entry
 entry_in names kids row = record { node = node_in names row.label; kids = map number_of (within kids row.kids); parent = parent_in row.above }
 
+-- all nodes as they are kept
 abbrev pub entries_in : List ℕ → List NodeId → List TreeRow → List Entry
 entries_in names kids rows = map (entry_in names kids) rows
 

@@ -10,6 +10,7 @@ pub record Row : Type 0 where
   pub node : Node
   pub kids : List ℕ
 
+-- a row of its parts
 abbrev pub row_with : Kind → Pos → ℕ → Option (List ℕ) → List ℕ → Row
 row_with kind pos end_line name kids = record { node = record { kind = kind; pos = pos; end_line = end_line; name = name }; kids = kids }
 

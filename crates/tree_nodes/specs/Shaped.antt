@@ -16,6 +16,7 @@ pub record HasShape (node : Node) (kids : List Kind) : Type 0 where
   pub fits : FitsOneOf (shape node.kind) kids
   pub named : is_some node.name ≡ is_named node.kind
 
+-- all nodes are in shape
 abbrev pub AreShaped : Trees → Type 0
 AreShaped none = Unit {0}
 AreShaped (tree node kids rest) = HasShape node (kinds_of kids) × AreShaped kids × AreShaped rest

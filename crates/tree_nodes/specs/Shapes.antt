@@ -6,6 +6,7 @@ use Rattle.tree_nodes.specs.Sorts.{Sort, statement, elif_clause, else_clause, ha
 
 -- ---- parts of a list of kids
 
+-- one kid of some sorts, maybe one, any number of them, or any number of pairs of them
 pub data Part : Type 0 where
   a_single : List Sort → Part
   a_possible : List Sort → Part
@@ -33,9 +34,11 @@ abbrev pub FitsOneOf : List (List Part) → List Kind → Type 0
 FitsOneOf [] kids = ⊥
 FitsOneOf (form ∷ forms) kids = Fits form kids ⊎ FitsOneOf forms kids
 
+-- one
 abbrev pub one : List Sort → List Part
 one sorts = a_single sorts ∷ []
 
+-- none or one
 abbrev pub maybe : List Sort → List Part
 maybe sorts = a_possible sorts ∷ []
 
@@ -78,13 +81,16 @@ behind_parameters rest = (some (only parameter) ++ one (only positional_only_mar
 abbrev pub documented : List Part
 documented = one (only docstring) ++ many (only statement)
 
+-- the statements of a block
 abbrev pub block : List Part
 block = some (only statement)
 
+-- decorators, parameters, the result's annotation, the body
 abbrev pub function_forms : List (List Part)
 function_forms =
     before_each (many (only decorator)) (behind_parameters (maybe (only annotation) ++ documented) ++ behind_parameters (maybe (only annotation) ++ block))
 
+-- decorators, arguments, the body
 abbrev pub class_forms : List (List Part)
 class_forms = before_each (many (only decorator) ++ arguments) (documented ∷ block ∷ [])
 
@@ -98,6 +104,7 @@ leaf = sole []
 
 -- ---- the forms of each kind
 
+-- each kind's forms; a kind without a line here has no kids
 unfoldable pub shape : Kind → List (List Part)
 shape kinds.Module = sole (maybe (only docstring) ++ many (only statement))
 shape kinds.ExpressionStatement = sole (one value)

@@ -3,6 +3,7 @@ use Rattle.std.specs.Prelude.{◌≡◌, Bool, true, false, List, [], ◌∷◌,
 use Rattle.tree_nodes.specs.declared.kind.Kind.{Kind}
 use Rattle.tree_nodes.specs.declared.kind.Kind.TheVariants as kinds
 
+-- the sorts
 pub data Sort : Type 0 where
   module_root : Sort
   statement : Sort
@@ -215,9 +216,11 @@ abbrev pub AreOf : List Sort → List Kind → Type 0
 AreOf sorts [] = Unit {0}
 AreOf sorts (kind ∷ kinds) = IsOf sorts kind × AreOf sorts kinds
 
+-- a sort alone
 abbrev pub only : Sort → List Sort
 only sort = sort ∷ []
 
+-- an expression of any kind
 abbrev pub expression : List Sort
 expression = constant ∷ name_read ∷ attribute_read ∷ minus ∷ sum_row ∷ other_expression ∷ []
 
@@ -229,6 +232,7 @@ value = starred ∷ expression
 abbrev pub target : List Sort
 target = single_target ∷ group_target ∷ []
 
+-- a target of any kind
 abbrev pub any_target : List Sort
 any_target = starred_target ∷ target
 
@@ -236,5 +240,6 @@ any_target = starred_target ∷ target
 abbrev pub compared : List Sort
 compared = constant ∷ attribute_read ∷ minus ∷ sum_row ∷ []
 
+-- an operator of an augmented assignment
 abbrev pub augmented_operator : List Sort
 augmented_operator = sum_operator ∷ product_operator ∷ shift_operator ∷ other_operator ∷ []

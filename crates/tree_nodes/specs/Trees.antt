@@ -23,10 +23,12 @@ pub record Tree : Type 0 where
 
 -- ---- trees as a list
 
+-- trees from a list
 abbrev pub pack : List Tree → Trees
 pack [] = none
 pack (t ∷ ts) = tree t.node t.kids (pack ts)
 
+-- and back to one
 abbrev pub unpack : Trees → List Tree
 unpack none = []
 unpack (tree node kids rest) = record { node = node; kids = kids } ∷ unpack rest
@@ -76,11 +78,14 @@ entries t = entries_at 0 None t
 unfoldable pub entry_at : Tree → ℕ → Entry
 entry_at t n = slice_index_or (entries t) n (record { node = t.node; kids = []; parent = None })
 
+-- what the node of a number says
 abbrev pub node_at : Tree → ℕ → Node
 node_at t n = (entry_at t n).node
 
+-- the numbers of its kids
 abbrev pub kids_at : Tree → ℕ → List ℕ
 kids_at t n = (entry_at t n).kids
 
+-- the number of its parent
 abbrev pub parent_at : Tree → ℕ → Option ℕ
 parent_at t n = (entry_at t n).parent

@@ -5,10 +5,10 @@ ghost use Rattle.tree_nodes.specs.Trees.{pack};
 ghost use Rattle.tree_nodes.specs.Rows.{row_with, tree_of};
 ghost use Rattle.tree_nodes.specs.Built.{rows_in, sizes_in, total, IsBuilt};
 
-use crate::label::{Label, Span};
-use crate::finish::{Open, give_out};
-use crate::tree::Tree;
 use crate::Kind;
+use crate::finish::{Open, give_out};
+use crate::label::{Label, Span};
+use crate::tree::Tree;
 use lint_values::{Memory, Pos};
 use std::alloc::Global;
 use std::marker::Model;
@@ -33,8 +33,7 @@ pub struct TreeBuilder {
 impl Model for TreeBuilder {
     ghost use Rattle.std.specs.Prelude.{List, string_bytes};
     ghost use Rattle.std.specs.Str.{IsUtf8};
-ghost use Rattle.tree_nodes.specs.Trees.{pack};
-ghost use Rattle.tree_nodes.specs.Rows.{Row};
+    ghost use Rattle.tree_nodes.specs.Rows.{Row};
 
     ghost Value = { List Row };
 
@@ -58,9 +57,23 @@ impl TreeBuilder {
         }
     }
 
+    /// How many rows were made.
+    pub fn rows(&self) -> usize
+        ensures { result ≡ length self.now }
+    {
+        self.rows.len()
+    }
+
     /// Adds a row and gives its number. Its kids are numbers of earlier rows, in the order in which they stand. Earlier
     /// rows stay, so that rows which turn out to be of no use can be left behind.
-    pub fn push(&mut self, kind: Kind, pos: Pos, end_line: u32, name: Option<&str>, kids: &[u32]) -> Result<u32, Memory>
+    pub fn push(
+        &mut self,
+        kind: Kind,
+        pos: Pos,
+        end_line: u32,
+        name: Option<&str>,
+        kids: &[u32],
+    ) -> Result<u32, Memory>
         requires { All (λ k. k < length self.old) kids.now }
         ensures number { IfOk result (λ n. n ≡ length self.old) }
         ensures ok { OnOk result (self.new ≡ self.old ++ row_with kind pos end_line (option_copied name.entry) kids.now ∷ []) }
@@ -73,7 +86,13 @@ impl TreeBuilder {
         let is_named = name.is_some();
         let name = add_name(&mut self.names, name)?;
         let kids = add_kids(&mut self.kids, kids)?;
-        let label = Label { kind, is_named, pos, end_line, name };
+        let label = Label {
+            kind,
+            is_named,
+            pos,
+            end_line,
+            name,
+        };
         self.rows.push(BuiltRow { label, kids, size })?;
         Ok(number)
     }
@@ -83,15 +102,27 @@ impl TreeBuilder {
         requires { root < length self }
         ensures { IfOk result (λ tree. tree ≡ tree_of self root) }
     {
-        let TreeBuilder { alloc, rows, kids, names } = self;
+        let TreeBuilder {
+            alloc,
+            rows,
+            kids,
+            names,
+        } = self;
         let mut out = Vec::new(alloc);
         let mut numbered = Vec::new(alloc);
         let mut stack = Vec::new(alloc);
-        stack.push(Open { row: root, above: 0 })?;
+        stack.push(Open {
+            row: root,
+            above: 0,
+        })?;
         'rows: while let Some(next) = stack.pop() {
             give_out(&mut out, &mut numbered, &mut stack, &rows, &kids, next)?;
         }
-        Ok(Tree { rows: out, kids: numbered, names })
+        Ok(Tree {
+            rows: out,
+            kids: numbered,
+            names,
+        })
     }
 }
 
@@ -99,7 +130,11 @@ impl TreeBuilder {
 pub fn row_number(rows: usize) -> Result<u32, Memory>
     ensures { IfOk result (λ n. (n ≡ rows) × (n < 4294967295)) }
 {
-    if rows < u32::MAX as usize { Ok(rows as u32) } else { Err(Memory) }
+    if rows < u32::MAX as usize {
+        Ok(rows as u32)
+    } else {
+        Err(Memory)
+    }
 }
 
 /// The span of so many items behind others.

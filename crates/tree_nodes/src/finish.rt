@@ -17,7 +17,12 @@ pub struct Open {
 }
 
 /// The numbers of kids behind the others, where the first one's is `first`.
-pub fn number_kids(all: &mut Vec<NodeId>, rows: &[BuiltRow], kids: &[u32], first: u32) -> Result<(), Memory>
+pub fn number_kids(
+    all: &mut Vec<NodeId>,
+    rows: &[BuiltRow],
+    kids: &[u32],
+    first: u32,
+) -> Result<(), Memory>
     requires { All (λ k. k < length rows.now) kids.now }
     ensures { OnOk result (AddsNumbers all.old.items all.new.items (numbers_by (sizes_in rows.now) first kids.now)) }
 {
@@ -36,13 +41,23 @@ pub fn open_kids(stack: &mut Vec<Open>, kids: &[u32], above: u32) -> Result<(), 
     let mut left = kids.len();
     while left > 0 {
         left -= 1;
-        stack.push(Open { row: kids[left], above })?;
+        stack.push(Open {
+            row: kids[left],
+            above,
+        })?;
     }
     Ok(())
 }
 
 /// Gives the next number to a row, and opens its kids.
-pub fn give_out(out: &mut Vec<TreeRow>, numbered: &mut Vec<NodeId>, stack: &mut Vec<Open>, rows: &[BuiltRow], kids: &[u32], next: Open) -> Result<(), Memory>
+pub fn give_out(
+    out: &mut Vec<TreeRow>,
+    numbered: &mut Vec<NodeId>,
+    stack: &mut Vec<Open>,
+    rows: &[BuiltRow],
+    kids: &[u32],
+    next: Open,
+) -> Result<(), Memory>
     requires linked { AreLinked kids.now rows.now }
     requires made { next.row < length rows.now }
     ensures { OnOk result (GivesOut rows.now kids.now next out.old.items out.new.items numbered.old.items numbered.new.items stack.old.items stack.new.items) }
@@ -54,7 +69,11 @@ pub fn give_out(out: &mut Vec<TreeRow>, numbered: &mut Vec<NodeId>, stack: &mut 
     number_kids(numbered, rows, below, above)?;
     let end = u32::try_from(numbered.len()).map_err(|_| Memory)?;
     let kids = Span { start, end };
-    out.push(TreeRow { label: row.label, kids, above: next.above })?;
+    out.push(TreeRow {
+        label: row.label,
+        kids,
+        above: next.above,
+    })?;
     open_kids(stack, below, above)?;
     Ok(())
 }

@@ -1,7 +1,7 @@
 // Kinds of nodes.
 
-/// The kind of a node of a syntax tree: one variant for each form of Python 3.11's syntax. A comment behind a variant
-/// says which kids a node has; `specs/Shapes.antt` says so exactly.
+/// The kind of a node of a syntax tree: one variant for each form of Python 3.11's syntax. The line above a
+/// variant says which kids a node has; `specs/Shapes.antt` says so exactly.
 #[derive(Clone, Copy, Debug, PartialEq, Eq)]
 pub enum Kind {
     /// The root: a docstring, statements.

@@ -54,6 +54,7 @@ impl Tree {
         self.rows.len() as u32
     }
 
+    /// The node's kind.
     pub fn kind(&self, n: NodeId) -> Kind
         requires { n.0 < count_of self.now }
         ensures { result ≡ (node_at self.now n.0).kind }
@@ -84,7 +85,11 @@ impl Tree {
         ensures kid { IfSome result (λ p. Contains (kids_at self.now p.0) n.0) }
     {
         let above = self.row(n).above;
-        if above == 0 { None } else { Some(NodeId(above - 1)) }
+        if above == 0 {
+            None
+        } else {
+            Some(NodeId(above - 1))
+        }
     }
 
     /// Where the node begins.

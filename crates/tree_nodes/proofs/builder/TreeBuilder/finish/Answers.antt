@@ -9,8 +9,8 @@ use Rattle.tree_nodes.proofs.builder.TreeBuilder.finish.Goals as goal
 pub rows-init : goal.rows-init
 rows-init c =
     finishing-start _ _ _ _ _ _ _ c.new-numbered.ensures.items c.new-out.ensures.items
-      (c.in_ok-push.ensures.items ∙ ap (λ (os : List Open). os ++ record { row = c.args.root; above = 0 } ∷ []) c.new-stack.ensures.items)
-      (below-same_length _ _ _ c.self.view_is c.requires)
+    (c.in_ok-push.ensures.items ∙ ap (λ (os : List Open). os ++ record { row = c.args.root; above = 0 } ∷ []) c.new-stack.ensures.items)
+    (below-same_length _ _ _ c.self.view_is c.requires)
 
 pub give_out-requires-clause-linked : goal.give_out-requires-clause-linked
 give_out-requires-clause-linked c = linked-by _ _ _ _ _ c.self.invariant c.deref-in-Some.ensures.value c.deref.ensures.value

@@ -24,14 +24,14 @@ returns-in_err-push-clause-err c =
 pub invariant_of-self-2 : goal.invariant_of-self-2
 invariant_of-self-2 c =
     built-add-by _ _ _ _ _ _ _ _ _ _ c.in_ok-name.ensures.ok c.in_ok-kids.ensures.ok c.in_ok-push.ensures.items c.self.view_is c.self.invariant c.in_ok-name.ensures.utf8
-      c.in_ok-name.ensures.span.0 c.in_ok-name.ensures.span.1 c.in_ok-kids.ensures.span.0 c.in_ok-kids.ensures.span.1 c.requires
-      (c.in_ok-size.ensures ∙ ap (λ (rs : List BuiltRow). 1 + total (sizes_in rs) c.args.kids.now) c.as_slice.ensures.value)
+    c.in_ok-name.ensures.span.0 c.in_ok-name.ensures.span.1 c.in_ok-kids.ensures.span.0 c.in_ok-kids.ensures.span.1 c.requires
+    (c.in_ok-size.ensures ∙ ap (λ (rs : List BuiltRow). 1 + total (sizes_in rs) c.args.kids.now) c.as_slice.ensures.value)
 
 pub returns-clause-ok : goal.returns-clause-ok
 returns-clause-ok c =
     rows-add-by _ _ _ _ _ _ _ _ _ (option_copied c.args.name) _ c.in_ok-name.ensures.ok c.in_ok-kids.ensures.ok c.in_ok-push.ensures.items c.self.view_is c.self.invariant
-      c.in_ok-name.ensures.span.0 c.in_ok-name.ensures.span.1 c.in_ok-kids.ensures.span.0 c.in_ok-kids.ensures.span.1 refl
-      (c.is_some-is_named.ensures ∙ is_some-copied c.args.name)
+    c.in_ok-name.ensures.span.0 c.in_ok-name.ensures.span.1 c.in_ok-kids.ensures.span.0 c.in_ok-kids.ensures.span.1 refl
+    (c.is_some-is_named.ensures ∙ is_some-copied c.args.name)
 
 pub returns-in_err-kids-clause-earlier : goal.returns-in_err-kids-clause-earlier
 returns-in_err-kids-clause-earlier c =
@@ -44,12 +44,12 @@ returns-in_err-push-clause-earlier c =
 pub returns-clause-earlier : goal.returns-clause-earlier
 returns-clause-earlier c =
     λ n l. earlier-tree _ _ _ n (rows-add-by _ _ _ _ _ _ _ _ _ (option_copied c.args.name) _ c.in_ok-name.ensures.ok c.in_ok-kids.ensures.ok c.in_ok-push.ensures.items c.self.view_is c.self.invariant
-      c.in_ok-name.ensures.span.0 c.in_ok-name.ensures.span.1 c.in_ok-kids.ensures.span.0 c.in_ok-kids.ensures.span.1 refl
-      (c.is_some-is_named.ensures ∙ is_some-copied c.args.name)) l
+    c.in_ok-name.ensures.span.0 c.in_ok-name.ensures.span.1 c.in_ok-kids.ensures.span.0 c.in_ok-kids.ensures.span.1 refl
+    (c.is_some-is_named.ensures ∙ is_some-copied c.args.name)) l
 
 pub returns-clause-tree : goal.returns-clause-tree
 returns-clause-tree c =
     let number_is : c.in_ok-number.number ≡ length c.args.self.now = omega (arith, c.in_ok-number.ensures.0, c.len.ensures, length-view _ _ _ _ c.self.view_is) in
     new-tree _ _ _ _ (rows-add-by _ _ _ _ _ _ _ _ _ (option_copied c.args.name) _ c.in_ok-name.ensures.ok c.in_ok-kids.ensures.ok c.in_ok-push.ensures.items c.self.view_is c.self.invariant
-      c.in_ok-name.ensures.span.0 c.in_ok-name.ensures.span.1 c.in_ok-kids.ensures.span.0 c.in_ok-kids.ensures.span.1 refl
-      (c.is_some-is_named.ensures ∙ is_some-copied c.args.name)) number_is
+    c.in_ok-name.ensures.span.0 c.in_ok-name.ensures.span.1 c.in_ok-kids.ensures.span.0 c.in_ok-kids.ensures.span.1 refl
+    (c.is_some-is_named.ensures ∙ is_some-copied c.args.name)) number_is

@@ -21,17 +21,17 @@ returns-clause-value c =
 pub returns-clause-behind : goal.returns-clause-behind
 returns-clause-behind c =
     all-of_numbers (λ k. c.args.n.0 < k) _ _ (all_kids _ _ _ c.index.result.now.kids _ c.kids_within.ensures c.as_slice.ensures.value (kids-is _ _ _ _ _ _ c.self.view_is c.self.invariant c.requires c.index.ensures))
-      (kids-behind _ _ c.requires)
+    (kids-behind _ _ c.requires)
 
 pub returns-clause-made : goal.returns-clause-made
 returns-clause-made c =
     all-of_numbers (λ k. k < count_of c.args.self.now) _ _ (all_kids _ _ _ c.index.result.now.kids _ c.kids_within.ensures c.as_slice.ensures.value (kids-is _ _ _ _ _ _ c.self.view_is c.self.invariant c.requires c.index.ensures))
-      (kids-made _ _ c.requires)
+    (kids-made _ _ c.requires)
 
 pub returns-clause-parent : goal.returns-clause-parent
 returns-clause-parent c =
     all-of_numbers (λ k. parent_at c.args.self.now k ≡ Some c.args.n.0) _ _ (all_kids _ _ _ c.index.result.now.kids _ c.kids_within.ensures c.as_slice.ensures.value (kids-is _ _ _ _ _ _ c.self.view_is c.self.invariant c.requires c.index.ensures))
-      (kids-parent _ _ c.requires)
+    (kids-parent _ _ c.requires)
 
 pub returns-clause-ascending : goal.returns-clause-ascending
 returns-clause-ascending c = kids-ascend _ _ c.requires
