@@ -1,0 +1,7 @@
+pub mod KeptLaws
+pub mod RowLaws
+pub mod ShapeLaws
+pub mod WalkLaws
+pub mod FinishLaws
+pub mod EntryLaws
+pub mod Reading

@@ -1,0 +1,12 @@
+pub mod Back
+pub mod Built
+pub mod Code
+pub mod Finished
+pub mod Finishing
+pub mod Kept
+pub mod Rows
+pub mod Shaped
+pub mod Shapes
+pub mod Sorts
+pub mod Trees
+pub mod Walked
