@@ -5,6 +5,7 @@ ghost use Rattle.infer_sets.specs.Sets.{none};
 ghost use Rattle.infer_equations.specs.Assignment.{either, or_none, overlaid};
 ghost use Rattle.infer_equations.specs.Reading.{Reads};
 
+use crate::solved::Solved;
 use crate::table::Table;
 use infer_sets::AbsSet;
 use lint_values::Memory;
@@ -15,7 +16,7 @@ use std::marker::Model;
 /// reading changes, and the list of the variables that were read.
 #[derive(Debug, Drop)]
 pub struct View<'a> {
-    base: &'a Table,
+    base: &'a Solved<'a>,
     own: &'a Table,
     empty: &'a AbsSet,
     noted: Vec<u64>,
@@ -37,8 +38,8 @@ impl<'a> Model for View<'a> {
 }
 
 impl<'a> View<'a> {
-    /// A view of two tables, the first before the second, through which nothing was read.
-    pub fn new(alloc: Global, base: &'a Table, own: &'a Table, empty: &'a AbsSet) -> View<'a>
+    /// A view of solved sets and, behind them, sets in progress, through which nothing was read.
+    pub fn new(alloc: Global, base: &'a Solved<'a>, own: &'a Table, empty: &'a AbsSet) -> View<'a>
         requires { empty.now ≡ none }
         ensures { result ≡ record { sets = overlaid base.now own.now; noted = [] } }
     {
@@ -67,7 +68,7 @@ impl<'a> View<'a> {
     }
 }
 
-fn present<'a>(base: &'a Table, own: &'a Table, empty: &'a AbsSet, var: u64) -> &'a AbsSet
+fn present<'a>(base: &'a Solved<'a>, own: &'a Table, empty: &'a AbsSet, var: u64) -> &'a AbsSet
     requires { empty.now ≡ none }
     ensures { result.now ≡ or_none (either (map.get base.now var) (map.get own.now var)) }
 {

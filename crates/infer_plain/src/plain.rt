@@ -8,7 +8,7 @@ ghost use Rattle.infer_reached.specs.InProgress.{InProgress, HasSet};
 ghost use Rattle.infer_reached.specs.Extension.{AllLeast};
 ghost use Rattle.infer_plain.specs.Sweep.{Looked, Swept};
 
-use infer_equations::{Equations, Steps, Table};
+use infer_equations::{Equations, Solved, Steps, Table};
 use infer_reached::{add_all, add_one, evaluate, raise};
 use infer_sets::AbsSet;
 use lint_values::Memory;
@@ -24,7 +24,8 @@ impl Plain {
         requires { var < E.count_of eqs.now }
         ensures { IfOk result (λ s. s ≡ least (E.count_of eqs.now) (E.limit_of eqs.now) (E.right eqs.now) var) }
     {
-        let base = Table::new(alloc);
+        let none = Table::new(alloc);
+        let base = Solved::new(&none, &none);
         let mut own = Table::new(alloc);
         let mut run = Vec::new(alloc);
         add_one(alloc, &base, &mut own, &mut run, var)?;
@@ -40,7 +41,7 @@ fn any_change(up: bool, known: usize, reached: usize) -> bool
 }
 
 // One look at a variable: whether anything changed.
-fn look<E: Equations, L: Ledger>(alloc: Global, eqs: &E, base: &Table, own: &mut Table, run: &mut Vec<u64>, var: u64, steps: &mut Steps<L>) -> Result<bool, Memory>
+fn look<E: Equations, L: Ledger>(alloc: Global, eqs: &E, base: &Solved, own: &mut Table, run: &mut Vec<u64>, var: u64, steps: &mut Steps<L>) -> Result<bool, Memory>
     requires progress { InProgress (E.count_of eqs.now) (E.limit_of eqs.now) (E.right eqs.now) (base.now, own.old) run.old.items }
     requires known { Contains run.old.items var }
     ensures { IfOk result (λ changed. Looked (E.count_of eqs.now) (E.limit_of eqs.now) (E.right eqs.now) base.now (own.old, run.old.items) var (own.new, run.new.items) changed) }
@@ -59,7 +60,7 @@ fn either_rose(rose: bool, changed: bool) -> bool
 }
 
 // One look at each variable that was reached: whether anything changed.
-fn sweep<E: Equations, L: Ledger>(alloc: Global, eqs: &E, base: &Table, own: &mut Table, run: &mut Vec<u64>, steps: &mut Steps<L>) -> Result<bool, Memory>
+fn sweep<E: Equations, L: Ledger>(alloc: Global, eqs: &E, base: &Solved, own: &mut Table, run: &mut Vec<u64>, steps: &mut Steps<L>) -> Result<bool, Memory>
     requires { InProgress (E.count_of eqs.now) (E.limit_of eqs.now) (E.right eqs.now) (base.now, own.old) run.old.items }
     ensures { IfOk result (λ changed. Swept (E.count_of eqs.now) (E.limit_of eqs.now) (E.right eqs.now) base.now (own.old, run.old.items) (length run.old.items) (own.new, run.new.items) changed) }
 {
@@ -73,7 +74,7 @@ fn sweep<E: Equations, L: Ledger>(alloc: Global, eqs: &E, base: &Table, own: &mu
 }
 
 // Sweeps until nothing changes.
-fn settle<E: Equations, L: Ledger>(alloc: Global, eqs: &E, base: &Table, own: &mut Table, run: &mut Vec<u64>, var: u64, steps: &mut Steps<L>) -> Result<(), Memory>
+fn settle<E: Equations, L: Ledger>(alloc: Global, eqs: &E, base: &Solved, own: &mut Table, run: &mut Vec<u64>, var: u64, steps: &mut Steps<L>) -> Result<(), Memory>
     requires progress { InProgress (E.count_of eqs.now) (E.limit_of eqs.now) (E.right eqs.now) (base.now, own.old) run.old.items }
     requires known { HasSet (base.now, own.old) var }
     ensures least { OnOk result (AllLeast (E.count_of eqs.now) (E.limit_of eqs.now) (E.right eqs.now) (base.now, own.new)) }
@@ -84,7 +85,7 @@ fn settle<E: Equations, L: Ledger>(alloc: Global, eqs: &E, base: &Table, own: &m
 }
 
 #[tactic(auto, unfolding(infer_reached::specs::Tables::found))]
-fn taken(base: &Table, own: &mut Table, var: u64) -> AbsSet
+fn taken(base: &Solved, own: &mut Table, var: u64) -> AbsSet
     requires empty { map.get base.now var ≡ None }
     requires known { HasSet (base.now, own.old) var }
     ensures { found (base.now, own.old) var ≡ Some result }

@@ -6,13 +6,13 @@ ghost use Rattle.infer_equations.specs.Assignment.{or_none};
 ghost use Rattle.infer_reached.specs.Tables.{found};
 ghost use Rattle.infer_reached.specs.Extension.{extended, added_by};
 
-use infer_equations::Table;
+use infer_equations::{Solved, Table};
 use infer_sets::AbsSet;
 use lint_values::Memory;
 use std::alloc::Global;
 
 /// Adds a variable with the empty set where neither table has it.
-pub fn add_one(alloc: Global, base: &Table, own: &mut Table, run: &mut Vec<u64>, var: u64) -> Result<(), Memory>
+pub fn add_one(alloc: Global, base: &Solved, own: &mut Table, run: &mut Vec<u64>, var: u64) -> Result<(), Memory>
     ensures { OnOk result ((own.new, run.new.items) ≡ added_by (found (base.now, own.old) var) own.old run.old.items var) }
 {
     if !has(base, own, var) {
@@ -23,14 +23,14 @@ pub fn add_one(alloc: Global, base: &Table, own: &mut Table, run: &mut Vec<u64>,
 }
 
 #[tactic(auto, unfolding(crate::specs::Tables::found))]
-fn has(base: &Table, own: &Table, var: u64) -> bool
+fn has(base: &Solved, own: &Table, var: u64) -> bool
     ensures { result ≡ is_some (found (base.now, own.now) var) }
 {
     base.find(var).is_some() || own.find(var).is_some()
 }
 
 /// Adds each variable with the empty set where neither table has it.
-pub fn add_all(alloc: Global, base: &Table, own: &mut Table, run: &mut Vec<u64>, noted: &[u64]) -> Result<(), Memory>
+pub fn add_all(alloc: Global, base: &Solved, own: &mut Table, run: &mut Vec<u64>, noted: &[u64]) -> Result<(), Memory>
     ensures { OnOk result ((own.new, run.new.items) ≡ extended base.now (own.old, run.old.items) noted.now) }
 {
     for var in noted {

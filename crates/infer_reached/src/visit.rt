@@ -2,7 +2,7 @@
 ghost use Rattle.std.specs.Prelude.{◌≡◌, ℕ, ◌+◌, ◌<◌, IfOk};
 ghost use Rattle.infer_reached.specs.Extension.{WasRead};
 
-use infer_equations::{Equations, Steps, Table, View};
+use infer_equations::{Equations, Solved, Steps, Table, View};
 use infer_sets::AbsSet;
 use lint_values::Memory;
 use std::alloc::Global;
@@ -15,8 +15,8 @@ pub struct Visit {
     pub noted: Vec<u64>,
 }
 
-/// Evaluates the right side of a variable under two tables, the first before the second.
-pub fn evaluate<E: Equations, L: Ledger>(alloc: Global, eqs: &E, base: &Table, own: &Table, var: u64, steps: &mut Steps<L>) -> Result<Visit, Memory>
+/// Evaluates the right side of a variable under solved sets and, behind them, sets in progress.
+pub fn evaluate<E: Equations, L: Ledger>(alloc: Global, eqs: &E, base: &Solved, own: &Table, var: u64, steps: &mut Steps<L>) -> Result<Visit, Memory>
     requires { var < E.count_of eqs.now }
     ensures step { steps.new ≡ steps.old + 1 }
     ensures read { IfOk result (λ r. WasRead (E.right eqs.now var) (E.reads eqs.now var) (base.now, own.now) r.noted.items r.set) }

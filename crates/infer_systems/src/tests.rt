@@ -1,3 +1,5 @@
+ghost use Rattle.std.specs.Prelude.{◌≡◌, ◌<◌};
+
 use crate::rule::Rule::{Both, Copy, More, Nothing, Unknown, Value, When};
 use crate::{Rule, System};
 use infer_core::{Equations, Frozen, Plain, Solver, Steps, least_solves};
