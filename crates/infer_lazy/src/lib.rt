@@ -1,0 +1,6 @@
+//! The lazy solver: a worklist over the variables that a demand reaches.
+#![tactic(auto)]
+
+mod worklist;
+
+pub use worklist::work_through;
