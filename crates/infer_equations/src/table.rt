@@ -54,7 +54,8 @@ impl Table {
 
     /// Takes the variable's set out, if the table has one.
     pub fn take(&mut self, var: u64) -> Option<AbsSet>
-        ensures { result ≡ map.get self.old var }
+        ensures value { result ≡ map.get self.old var }
+        ensures rest { self.new ≡ map.remove self.old var }
     {
         self.entries.remove(&var)
     }
