@@ -18,7 +18,7 @@ use Rattle.infer_reached.specs.Tables.{found, assigned}
 use Rattle.infer_reached.specs.Settled.{Settled, IsSettled}
 use Rattle.infer_reached.specs.InProgress.{HasSet, InProgress}
 use Rattle.infer_reached.specs.Extension.{extended, added_by, WasRead, AllLeast}
-use Rattle.infer_lazy.specs.Reach.{Dep, Reach, start, on, IsCheap, Lacking}
+use Rattle.infer_lazy.specs.Reach.{Dep, Reach, start, on, IsCheap, Lacking, IsListed, IsSupported, AreSupported}
 use Rattle.infer_lazy.specs.Worklist.{same_pair, with_pair, paired, readers, Known, Lazy, credit}
 use Rattle.infer_equations.proofs.Rounds.{Monotone, Limited, below-eq, least-fits}
 use Rattle.infer_reached.proofs.SettledIsLeast.{settled_is_least}
@@ -317,6 +317,26 @@ module _ (count limit : ℕ) (right : ℕ → Assignment → Set) (reads : ℕ �
       | inr k ↦ inr (record { read = k.read; there = k.there; again = λ p same. k.again p same ∙ assigned_at (b, o) v s e })
     ]
 
+module _ (count limit : ℕ) (right : ℕ → Assignment → Set) (reads : ℕ → Assignment → List ℕ) (mono : Monotone count right) (fits : Limited count limit right) (b : Map) (starts : List ℕ)
+    (o : Map) (run : List ℕ) (pairs : List (ℕ × ℕ)) (h : Lazy count limit right reads b o starts run [] pairs) where
+  all_least : AllLeast count limit right (b, o)
+  all_least = lazy_done count limit right reads mono fits b starts o run pairs h
+
+  least_at : (w : ℕ) → HasSet (b, o) w → assigned (b, o) w ≡ least count limit right w
+  least_at w has = assigned_at (b, o) w has.0 has.1 ∙ all_least.at w has.0 has.1
+
+  supported_by : (v : ℕ) → Contains run v → Contains [] v ⊎ Known right (b, o) run pairs v (assigned (b, o) v) → IsSupported (least count limit right) right (λ w. HasSet (b, o) w) v
+  supported_by v c (inl wait) = absurd (let l = wait.1 in omega arith)
+  supported_by v c (inr k) = record {
+    rests = k.read;
+    there = k.there;
+    again = λ q same. k.again q (record { at = λ w d. least_at w (k.there w d) ∙ same.at w d }) ∙ least_at v (h.progress.there v c)
+  }
+
+  -- nothing waits: each variable rests on what it read
+  pub lazy_supported : AreSupported (least count limit right) right b o
+  lazy_supported = record { at = λ v has. supported_by v (h.progress.stored v has) (h.known v (h.progress.stored v has)) }
+
 -- what the steps may still cost
 sum-le : (f g : ℕ → ℕ) → ((w : ℕ) → f w ≤ g w) → (ps : List (ℕ × ℕ)) → sum_by (λ p. f p.1) ps ≤ sum_by (λ p. g p.1) ps
 sum-le f g le [] = omega arith
@@ -578,6 +598,9 @@ module _ (count limit : ℕ) (right : ℕ → Assignment → Set) (reads : ℕ �
 
   pub run_lacking : (v : ℕ) → Contains run v → Lacking (least count limit right) reads b starts v
   run_lacking v c = (h.reached v c, h.progress.apart v c)
+
+  pub run_listed : IsListed (least count limit right) reads b o starts run
+  run_listed = record { stored = h.progress.stored; lacking = run_lacking }
 
   pub run_stored : (v : ℕ) → Contains run v → IsSome (get o v)
   run_stored v c = own_has count limit right mono fits b o run v h.progress c

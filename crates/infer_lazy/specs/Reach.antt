@@ -28,3 +28,18 @@ IsCheap limit low reads N before after =
 -- a variable of Reach that the base lacks
 abbrev pub Lacking : Assignment → (ℕ → Assignment → List ℕ) → Map → List ℕ → ℕ → Type 0
 Lacking low reads b starts v = Reach low reads starts v × (map.get b v ≡ None)
+
+-- the variables that were in progress: all that the table has, each reached, and none in the base
+pub record IsListed (low : Assignment) (reads : ℕ → Assignment → List ℕ) (b o : Map) (starts run : List ℕ) : Type 0 where
+  pub stored : (v : ℕ) → IsSome (map.get o v) → Contains run v
+  pub lacking : (v : ℕ) → Contains run v → Lacking low reads b starts v
+
+-- v's right side is its least set at each assignment that agrees with the least solution on some variables, each of which has P
+pub record IsSupported (low : Assignment) (right : ℕ → Assignment → Set) (P : ℕ → Type 0) (v : ℕ) : Type 0 where
+  pub rests : List ℕ
+  pub there : (w : ℕ) → Contains rests w → P w
+  pub again : (q : Assignment) → Agree rests low q → right v q ≡ low v
+
+-- each variable of the table o rests on variables that b or o has
+pub record AreSupported (low : Assignment) (right : ℕ → Assignment → Set) (b o : Map) : Type 0 where
+  pub at : (v : ℕ) → IsSome (map.get o v) → IsSupported low right (λ w. HasSet (b, o) w) v

@@ -8,7 +8,7 @@ ghost use Rattle.infer_equations.specs.Least.{least};
 ghost use Rattle.infer_reached.specs.Tables.{found, assigned};
 ghost use Rattle.infer_reached.specs.InProgress.{InProgress, HasSet, weight};
 ghost use Rattle.infer_reached.specs.Extension.{extended, added_by, WasRead, AllLeast};
-ghost use Rattle.infer_lazy.specs.Reach.{IsCheap, Lacking};
+ghost use Rattle.infer_lazy.specs.Reach.{IsCheap, Lacking, IsListed, AreSupported};
 ghost use Rattle.infer_lazy.specs.Worklist.{same_pair, with_pair, paired, readers, Lazy, credit};
 
 use infer_equations::{Equations, Solved, Steps, Table};
@@ -112,15 +112,17 @@ fn step_one<E: Equations, L: Ledger>(
     Ok(())
 }
 
-/// Every step from one variable that no table has.
-pub fn work_through<E: Equations, L: Ledger>(alloc: Global, eqs: &E, base: &Solved, work: &mut Table, start: u64, steps: &mut Steps<L>) -> Result<(), Memory>
+/// Every step from one variable that no table has. The answer lists the variables that were in progress: at Ok each of
+/// them is solved, in `work`.
+pub fn work_through<E: Equations, L: Ledger>(alloc: Global, eqs: &E, base: &Solved, work: &mut Table, start: u64, steps: &mut Steps<L>) -> Result<Vec<u64>, Memory>
     requires start_in { start < E.count_of eqs.now }
     requires empty { work.old ≡ map.empty }
     requires right { AllLeast (E.count_of eqs.now) (E.limit_of eqs.now) (E.right eqs.now) (base.now, work.old) }
     requires missing { found (base.now, work.old) start ≡ None }
     ensures least { OnOk result (AllLeast (E.count_of eqs.now) (E.limit_of eqs.now) (E.right eqs.now) (base.now, work.new)) }
     ensures has { OnOk result (HasSet (base.now, work.new) start) }
-    ensures reached { OnOk result ((v : ℕ) → IsSome (map.get work.new v) → Lacking (least (E.count_of eqs.now) (E.limit_of eqs.now) (E.right eqs.now)) (E.reads eqs.now) base.now (start ∷ []) v) }
+    ensures listed { IfOk result (λ run. IsListed (least (E.count_of eqs.now) (E.limit_of eqs.now) (E.right eqs.now)) (E.reads eqs.now) base.now work.new (start ∷ []) run.items) }
+    ensures supported { OnOk result (AreSupported (least (E.count_of eqs.now) (E.limit_of eqs.now) (E.right eqs.now)) (E.right eqs.now) base.now work.new) }
     ensures cost { OnOk result (IsCheap (E.limit_of eqs.now) (least (E.count_of eqs.now) (E.limit_of eqs.now) (E.right eqs.now)) (E.reads eqs.now) (λ v. IsSome (map.get work.new v)) steps.old steps.new) }
     ensures cost_err { OnErr result (IsCheap (E.limit_of eqs.now) (least (E.count_of eqs.now) (E.limit_of eqs.now) (E.right eqs.now)) (E.reads eqs.now) (Lacking (least (E.count_of eqs.now) (E.limit_of eqs.now) (E.right eqs.now)) (E.reads eqs.now) base.now (start ∷ [])) steps.old steps.new) }
 {
@@ -132,5 +134,5 @@ pub fn work_through<E: Equations, L: Ledger>(alloc: Global, eqs: &E, base: &Solv
     while let Some(var) = pending.pop() {
         step_one(alloc, eqs, base, work, &mut run, &mut pending, &mut pairs, start, var, steps)?;
     }
-    Ok(())
+    Ok(run)
 }

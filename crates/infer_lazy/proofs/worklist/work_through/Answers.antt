@@ -7,7 +7,7 @@ use Rattle.infer_equations.specs.Least.{least}
 use Rattle.infer_reached.specs.Tables.{assigned}
 use Rattle.infer_lazy.specs.Worklist.{Lazy}
 use Rattle.infer_lazy.specs.Reach.{Lacking}
-use Rattle.infer_lazy.proofs.Steps.{lazy-first, lazy-first_has, lazy-first_cost, lazy_done, credit-few, credit-bound, run_lacking, run_stored, popped, on_err}
+use Rattle.infer_lazy.proofs.Steps.{lazy-first, lazy-first_has, lazy-first_cost, lazy_done, credit-few, credit-bound, run_lacking, run_listed, run_stored, lazy_supported, popped, on_err}
 use Rattle.infer_lazy.proofs.worklist.work_through.Goals as goal
 
 pub loop-var-init : goal.loop-var-init
@@ -59,3 +59,15 @@ returns-clause-cost g c =
     credit-few (g.E.Equations.count_of e) (g.E.Equations.limit_of e) (g.E.Equations.right e) (g.E.Equations.reads e) (g.met.E.Equations.monotone e) (g.met.E.Equations.within e) c.args.base.now (c.args.start ∷ []) c.loop-var.work c.loop-var.run.items c.loop-var.pending.items c.loop-var.pairs.items c.loop-var.invariant.lazy
         (λ v. IsSome (get c.loop-var.work v)) (run_stored (g.E.Equations.count_of e) (g.E.Equations.limit_of e) (g.E.Equations.right e) (g.E.Equations.reads e) (g.met.E.Equations.monotone e) (g.met.E.Equations.within e) c.args.base.now (c.args.start ∷ []) c.loop-var.work c.loop-var.run.items c.loop-var.pending.items c.loop-var.pairs.items c.loop-var.invariant.lazy)
         _ _ (at_end _ _ _ _ c.loop-var.invariant.cost)
+
+pub returns-clause-listed : goal.returns-clause-listed
+returns-clause-listed g c =
+    let e = c.args.eqs.now in
+    run_listed (g.E.Equations.count_of e) (g.E.Equations.limit_of e) (g.E.Equations.right e) (g.E.Equations.reads e) (g.met.E.Equations.monotone e) (g.met.E.Equations.within e) c.args.base.now (c.args.start ∷ []) c.loop-var.work c.loop-var.run.items c.loop-var.pending.items c.loop-var.pairs.items c.loop-var.invariant.lazy
+
+pub returns-clause-supported : goal.returns-clause-supported
+returns-clause-supported g c =
+    let e = c.args.eqs.now in
+    let none : c.loop-var.pending.items ≡ [] = nil_from_length _ (search rules) in
+    lazy_supported (g.E.Equations.count_of e) (g.E.Equations.limit_of e) (g.E.Equations.right e) (g.E.Equations.reads e) (g.met.E.Equations.monotone e) (g.met.E.Equations.within e) c.args.base.now (c.args.start ∷ []) c.loop-var.work c.loop-var.run.items c.loop-var.pairs.items
+      (subst (λ xs. Lazy (g.E.Equations.count_of e) (g.E.Equations.limit_of e) (g.E.Equations.right e) (g.E.Equations.reads e) c.args.base.now c.loop-var.work (c.args.start ∷ []) c.loop-var.run.items xs c.loop-var.pairs.items) none c.loop-var.invariant.lazy)
