@@ -1,11 +1,10 @@
 -- A `BTreeMap`'s entries as a finite map.
-use Rattle.std.proofs.Common.{◌≡◌, ℕ, Bool, cond, List, [], ◌∷◌, refl, sym, ◌∙◌, ap}
-use Rattle.std.specs.Prelude.{Option, Some, None}
+use Rattle.std.proofs.Common.{◌≡◌, ℕ, cond, List, [], ◌∷◌, refl, sym, ◌∙◌, ap}
+use Rattle.std.specs.Prelude.{Some, None}
 use Rattle.std.specs.Ordering.{nat_cmp, eq_by_cmp}
 use Rattle.std.specs.Cmp.{nat_cmp_total, eq_by_cmp_equiv}
 use Rattle.std.specs.Map.{lookup}
-use Rattle.std.specs.FinMap.{FinMap, get, insert, find, from_entries, get-from_entries, get-insert, remove, get-remove, same_map, nat_cmp-IsAntisymmetric}
-use Rattle.std.specs.BTreeMap as tree
+use Rattle.std.specs.FinMap.{get, insert, find, from_entries, get-from_entries, get-insert, remove, get-remove, same_map, nat_cmp-IsAntisymmetric}
 use Rattle.infer_sets.specs.Sets.{Set}
 
 lookup-find : (q : ℕ) (es : List (ℕ × Set)) → lookup (λ k. eq_by_cmp nat_cmp q k) es ≡ find nat_cmp q es

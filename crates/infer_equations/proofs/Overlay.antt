@@ -3,7 +3,7 @@ use Rattle.std.proofs.Common.{◌≡◌, ℕ, Bool, true, false, cond, List, [],
 use Rattle.std.specs.Prelude.{Option, Some, None}
 use Rattle.std.specs.Ordering.{nat_cmp, eq_by_cmp}
 use Rattle.std.specs.Cmp.{nat_cmp_total}
-use Rattle.std.specs.FinMap.{FinMap, get, find, empty, entries, from_entries, get-from_entries, get-entries, get-empty, same_map, nat_cmp-IsAntisymmetric}
+use Rattle.std.specs.FinMap.{get, find, empty, entries, get-from_entries, get-entries, get-empty, same_map, nat_cmp-IsAntisymmetric}
 use Rattle.infer_sets.specs.Sets.{Set}
 use Rattle.infer_equations.specs.Assignment.{Map, either, overlaid}
 

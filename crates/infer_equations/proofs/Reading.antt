@@ -1,5 +1,5 @@
 -- Computations over a view, one after another.
-use Rattle.std.proofs.Common.{◌≡◌, ℕ, ◌+◌, ◌<◌, ◌≤◌, List, [], ◌∷◌, ◌++◌, ◌⊎◌, inl, inr, length, refl, sym, ◌∙◌, ap, subst, arith, append_assoc}
+use Rattle.std.proofs.Common.{◌≡◌, ℕ, List, [], ◌∷◌, ◌++◌, refl, sym, ◌∙◌, ap, subst, arith, append_assoc}
 use Rattle.std.specs.List.{All, Contains}
 use Rattle.std.proofs.lemmas.List.{append-nil}
 use Rattle.std.proofs.lemmas.List.Elements.{All-push, Contains-push, Contains-append_left, Contains-append_right, All-append, All-weaker}
@@ -19,7 +19,7 @@ reads-get v before after s kept noted set = record {
   noted = noted;
   within = All-push (λ w. Contains (v ∷ []) w) [] v (all-none _) (Contains-push [] v);
   value = set;
-  local = λ b same. sym (same.at v (Contains-push [] v)) ∙ sym set
+  local = λ b same. sym (same.at v (Contains-push [] v)) ∙ sym set;
 }
 
 -- nothing is read
@@ -37,13 +37,13 @@ reads-then f g r q u v w x y h k = record {
   more = h.more ++ k.more;
   noted = k.noted ∙ ap (λ xs. xs ++ k.more) h.noted ∙ append_assoc u.noted h.more k.more;
   within = All-append (λ z. Contains ((r (assignment_of u.sets)) ++ (q (f (assignment_of u.sets)) (assignment_of u.sets))) z) h.more k.more
-    (All-weaker (λ z. Contains (r (assignment_of u.sets)) z) (λ z. Contains ((r (assignment_of u.sets)) ++ (q (f (assignment_of u.sets)) (assignment_of u.sets))) z) (λ z. Contains-append_left (r (assignment_of u.sets)) (q (f (assignment_of u.sets)) (assignment_of u.sets)) z) h.more h.within)
-    (All-weaker (λ z. Contains (q x (assignment_of v.sets)) z) (λ z. Contains ((r (assignment_of u.sets)) ++ (q (f (assignment_of u.sets)) (assignment_of u.sets))) z)
+      (All-weaker (λ z. Contains (r (assignment_of u.sets)) z) (λ z. Contains ((r (assignment_of u.sets)) ++ (q (f (assignment_of u.sets)) (assignment_of u.sets))) z) (λ z. Contains-append_left (r (assignment_of u.sets)) (q (f (assignment_of u.sets)) (assignment_of u.sets)) z) h.more h.within)
+      (All-weaker (λ z. Contains (q x (assignment_of v.sets)) z) (λ z. Contains ((r (assignment_of u.sets)) ++ (q (f (assignment_of u.sets)) (assignment_of u.sets))) z)
       (λ z c. Contains-append_right (r (assignment_of u.sets)) (q (f (assignment_of u.sets)) (assignment_of u.sets)) z
-        (subst (λ p. Contains (q p (assignment_of u.sets)) z) h.value (subst (λ es. Contains (q x (assignment_of es)) z) h.kept c))) k.more k.within);
+      (subst (λ p. Contains (q p (assignment_of u.sets)) z) h.value (subst (λ es. Contains (q x (assignment_of es)) z) h.kept c))) k.more k.within);
   value = k.value ∙ ap (λ es. g x (assignment_of es)) h.kept ∙ ap (λ p. g p (assignment_of u.sets)) h.value;
   local = λ b same.
-    let first : Agree h.more (assignment_of u.sets) b = record { at = λ z c. same.at z (Contains-append_left _ _ z c) } in
-    let second : Agree k.more (assignment_of v.sets) b = record { at = λ z c. ap (λ t. assignment_of t z) h.kept ∙ same.at z (Contains-append_right _ _ z c) } in
-    ap (λ p. g p b) (h.local b first) ∙ k.local b second
+      let first : Agree h.more (assignment_of u.sets) b = record { at = λ z c. same.at z (Contains-append_left _ _ z c) } in
+      let second : Agree k.more (assignment_of v.sets) b = record { at = λ z c. ap (λ t. assignment_of t z) h.kept ∙ same.at z (Contains-append_right _ _ z c) } in
+      ap (λ p. g p b) (h.local b first) ∙ k.local b second;
 }

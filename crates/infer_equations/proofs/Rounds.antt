@@ -1,13 +1,11 @@
 -- The rounds rise, stand still after count * (limit + 2) of them, solve the equations, and lie within every solution.
-use Rattle.std.proofs.Common.{◌≡◌, ℕ, zero, suc, ◌+◌, ◌*◌, ◌<◌, ◌≤◌, Bool, true, false, cond, ◌⊎◌, inl, inr, List, refl, sym, ◌∙◌, ap, subst, arith}
+use Rattle.std.proofs.Common.{◌≡◌, ℕ, zero, suc, ◌+◌, ◌*◌, ◌<◌, ◌≤◌, Bool, true, false, cond, ◌⊎◌, inl, inr, refl, sym, ◌∙◌, ap, subst, arith}
 use Rattle.std.specs.Prelude.{nat_lt}
-use Rattle.std.specs.List.{Contains}
 use Rattle.std.proofs.lemmas.Bool.Decides.{nat_tests}
-use Rattle.std.proofs.lemmas.Grind.{common_steps}
 use Rattle.infer_sets.specs.Sets.{Set, none, Below, Fits, rank}
-use Rattle.infer_sets.proofs.SetOrder.{below-refl, below-trans, below-antisym, below-none, fits-none, rank-le, rank-most, rank-none}
-use Rattle.infer_equations.specs.Assignment.{Assignment, Within, AllFit, Agree}
-use Rattle.infer_equations.specs.Least.{round, least, Solves, IsClosed, IsLeastSolution}
+use Rattle.infer_sets.proofs.SetOrder.{below-refl, below-trans, below-none, fits-none, rank-le, rank-most}
+use Rattle.infer_equations.specs.Assignment.{Assignment, Within, AllFit}
+use Rattle.infer_equations.specs.Least.{round, least, IsLeastSolution}
 
 pub below-eq : (s t : Set) → s ≡ t → Below s t
 below-eq s t e = subst (λ x. Below s x) e (below-refl s)
@@ -147,5 +145,5 @@ module _ (count limit : ℕ) (right : ℕ → Assignment → Set) (mono : Monoto
     solves = record { at = least-solves };
     within_solutions = λ q s. least-within q (λ v h. below-eq _ _ (s.at v h));
     within_closed = λ q c. least-within q c.at;
-    fits = least-fits
+    fits = least-fits;
   }

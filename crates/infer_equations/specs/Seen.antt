@@ -1,8 +1,8 @@
 -- What a view shows: the sets of the variables, and the variables that were read, in order.
-use Rattle.std.specs.Prelude.{◌≡◌, ℕ, List, refl}
+use Rattle.std.specs.Prelude.{ℕ, List, refl}
 use Rattle.std.specs.FinMap as map
 use Rattle.std.specs.Coded.{Coded, code_by, coded×, coded_ℕ, coded_list}
-use Rattle.infer_sets.specs.Sets.{Set, set_code}
+use Rattle.infer_sets.specs.Sets.{set_code}
 use Rattle.infer_equations.specs.Assignment.{Map}
 
 abbrev pub map_code : Coded Map

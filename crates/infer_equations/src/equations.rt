@@ -35,7 +35,13 @@ pub trait Equations {
         ensures { result ≡ count_of self.now };
 
     /// The right side of a variable under the view's assignment. It takes sets from the view alone, and counts one step.
-    fn eval<L: Ledger>(&self, alloc: Global, var: u64, view: &mut View, steps: &mut Steps<L>) -> Result<AbsSet, Memory>
+    fn eval<L: Ledger>(
+        &self,
+        alloc: Global,
+        var: u64,
+        view: &mut View,
+        steps: &mut Steps<L>,
+    ) -> Result<AbsSet, Memory>
         requires { var < count_of self.now }
         ensures step { steps.new ≡ steps.old + 1 }
         ensures kept { view.new.sets ≡ view.old.sets }

@@ -1,11 +1,8 @@
 -- A sweep evaluates each variable that was reached, and says whether anything changed.
-use Rattle.std.specs.Prelude.{◌≡◌, ℕ, ◌+◌, ◌<◌, List, [], ◌∷◌, ◌++◌, length, Some, None, Option, ◌⊎◌, Bool, true, false, slice_index}
-use Rattle.std.specs.List.{All, Contains}
-use Rattle.std.specs.FinMap as map
-use Rattle.infer_sets.specs.Sets.{Set, none}
-use Rattle.infer_equations.specs.Assignment.{Assignment, Map, Agree}
-use Rattle.infer_equations.specs.Least.{least}
-use Rattle.infer_reached.specs.Tables.{found, assigned}
+use Rattle.std.specs.Prelude.{◌≡◌, ℕ, ◌<◌, List, ◌++◌, ◌⊎◌, Bool, true, false, slice_index}
+use Rattle.infer_sets.specs.Sets.{Set}
+use Rattle.infer_equations.specs.Assignment.{Assignment, Map}
+use Rattle.infer_reached.specs.Tables.{assigned}
 use Rattle.infer_reached.specs.InProgress.{HasSet, InProgress, weight}
 use Rattle.infer_reached.specs.Settled.{Settled}
 
@@ -24,4 +21,4 @@ pub record Swept (count limit : ℕ) (right : ℕ → Assignment → Set) (b : M
   pub run : q.1 ≡ p.1 ++ more
   pub keeps : (w : ℕ) → HasSet (b, p.0) w → HasSet (b, q.0) w
   pub rose : ((changed ≡ true) × (weight count limit (b, p.0) < weight count limit (b, q.0)))
-    ⊎ ((changed ≡ false) × (q ≡ p) × ((k : ℕ) → k < i → Settled (right (slice_index p.1 k)) (b, p.0) (assigned (b, p.0) (slice_index p.1 k))))
+      ⊎ ((changed ≡ false) × (q ≡ p) × ((k : ℕ) → k < i → Settled (right (slice_index p.1 k)) (b, p.0) (assigned (b, p.0) (slice_index p.1 k))))

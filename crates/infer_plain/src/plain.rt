@@ -20,7 +20,12 @@ pub struct Plain;
 
 impl Plain {
     /// The set of a variable in the least solution. It takes rounds over all variables reached so far, until none changes.
-    pub fn solve<E: Equations, L: Ledger>(alloc: Global, eqs: &E, var: u64, steps: &mut Steps<L>) -> Result<AbsSet, Memory>
+    pub fn solve<E: Equations, L: Ledger>(
+        alloc: Global,
+        eqs: &E,
+        var: u64,
+        steps: &mut Steps<L>,
+    ) -> Result<AbsSet, Memory>
         requires { var < E.count_of eqs.now }
         ensures { IfOk result (λ s. s ≡ least (E.count_of eqs.now) (E.limit_of eqs.now) (E.right eqs.now) var) }
     {
@@ -41,7 +46,15 @@ fn any_change(up: bool, known: usize, reached: usize) -> bool
 }
 
 // One look at a variable: whether anything changed.
-fn look<E: Equations, L: Ledger>(alloc: Global, eqs: &E, base: &Solved, own: &mut Table, run: &mut Vec<u64>, var: u64, steps: &mut Steps<L>) -> Result<bool, Memory>
+fn look<E: Equations, L: Ledger>(
+    alloc: Global,
+    eqs: &E,
+    base: &Solved,
+    own: &mut Table,
+    run: &mut Vec<u64>,
+    var: u64,
+    steps: &mut Steps<L>,
+) -> Result<bool, Memory>
     requires progress { InProgress (E.count_of eqs.now) (E.limit_of eqs.now) (E.right eqs.now) (base.now, own.old) run.old.items }
     requires known { Contains run.old.items var }
     ensures { IfOk result (λ changed. Looked (E.count_of eqs.now) (E.limit_of eqs.now) (E.right eqs.now) base.now (own.old, run.old.items) var (own.new, run.new.items) changed) }
@@ -60,7 +73,14 @@ fn either_rose(rose: bool, changed: bool) -> bool
 }
 
 // One look at each variable that was reached: whether anything changed.
-fn sweep<E: Equations, L: Ledger>(alloc: Global, eqs: &E, base: &Solved, own: &mut Table, run: &mut Vec<u64>, steps: &mut Steps<L>) -> Result<bool, Memory>
+fn sweep<E: Equations, L: Ledger>(
+    alloc: Global,
+    eqs: &E,
+    base: &Solved,
+    own: &mut Table,
+    run: &mut Vec<u64>,
+    steps: &mut Steps<L>,
+) -> Result<bool, Memory>
     requires { InProgress (E.count_of eqs.now) (E.limit_of eqs.now) (E.right eqs.now) (base.now, own.old) run.old.items }
     ensures { IfOk result (λ changed. Swept (E.count_of eqs.now) (E.limit_of eqs.now) (E.right eqs.now) base.now (own.old, run.old.items) (length run.old.items) (own.new, run.new.items) changed) }
 {
@@ -74,7 +94,15 @@ fn sweep<E: Equations, L: Ledger>(alloc: Global, eqs: &E, base: &Solved, own: &m
 }
 
 // Sweeps until nothing changes.
-fn settle<E: Equations, L: Ledger>(alloc: Global, eqs: &E, base: &Solved, own: &mut Table, run: &mut Vec<u64>, var: u64, steps: &mut Steps<L>) -> Result<(), Memory>
+fn settle<E: Equations, L: Ledger>(
+    alloc: Global,
+    eqs: &E,
+    base: &Solved,
+    own: &mut Table,
+    run: &mut Vec<u64>,
+    var: u64,
+    steps: &mut Steps<L>,
+) -> Result<(), Memory>
     requires progress { InProgress (E.count_of eqs.now) (E.limit_of eqs.now) (E.right eqs.now) (base.now, own.old) run.old.items }
     requires known { HasSet (base.now, own.old) var }
     ensures least { OnOk result (AllLeast (E.count_of eqs.now) (E.limit_of eqs.now) (E.right eqs.now) (base.now, own.new)) }

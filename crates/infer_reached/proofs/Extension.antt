@@ -1,26 +1,24 @@
 -- To add the variables that were read.
-use Rattle.std.proofs.Common.{◌≡◌, ◌≢◌, ℕ, zero, suc, ◌+◌, ◌*◌, ◌<◌, ◌≤◌, Bool, true, false, cond, not, ◌||◌, below_more, ◌⊎◌, inl, inr, List, [], ◌∷◌, ◌++◌, length, refl, sym, ◌∙◌, ap, subst, arith, append_assoc, length-append, get_or}
-use Rattle.std.proofs.lemmas.Bool.Decides.{nat_tests}
+use Rattle.std.proofs.Common.{◌≡◌, ℕ, zero, suc, ◌<◌, Bool, true, false, ◌||◌, ◌⊎◌, inl, inr, List, [], ◌∷◌, ◌++◌, length, refl, sym, ◌∙◌, ap, subst, arith, append_assoc, length-append}
 use Rattle.std.proofs.lemmas.List.Elements.{Contains-append_left, All-contains}
-use Rattle.std.specs.Prelude.{nat_lt, IsSome, Option, Some, None, ◌==◌}
+use Rattle.std.specs.Prelude.{IsSome, Option, Some, None}
 use Rattle.std.specs.List.{All, Contains, IsDistinct, list_any}
 use Rattle.std.specs.Prelude.{nat_eq}
 use Rattle.std.specs.Cmp.{nat_eq_equiv}
 use Rattle.std.proofs.lemmas.Map.Keys.{IsDistinct-push}
-use Rattle.std.proofs.lemmas.List.{append-nil, get_or_read}
-use Rattle.infer_sets.specs.Sets.{Set, none, is_below, Below, Fits}
-use Rattle.infer_sets.proofs.SetOrder.{below-antisym, below-none, fits-none}
-use Rattle.infer_equations.specs.Assignment.{Assignment, Map, Within, AllFit, Agree, or_none, either, assignment_of, overlaid}
+use Rattle.std.proofs.lemmas.List.{append-nil}
+use Rattle.infer_sets.specs.Sets.{Set, none, Below, Fits}
+use Rattle.infer_sets.proofs.SetOrder.{below-none, fits-none}
+use Rattle.infer_equations.specs.Assignment.{Assignment, Map, Agree, or_none, either, assignment_of, overlaid}
 use Rattle.infer_equations.proofs.Overlay.{get-overlaid}
 use Rattle.infer_equations.specs.Least.{least}
 use Rattle.infer_reached.specs.Tables.{found, assigned}
 use Rattle.infer_equations.specs.Seen.{Seen}
 use Rattle.infer_equations.specs.Reading.{Reads}
-use Rattle.infer_reached.specs.Settled.{Settled, IsSettled}
 use Rattle.infer_reached.specs.InProgress.{HasSet, InProgress, weight}
 use Rattle.infer_reached.specs.Extension.{added_by, extended, WasRead}
 use Rattle.infer_equations.proofs.Rounds.{Monotone, Limited}
-use Rattle.infer_reached.proofs.Progress.{progress-new, progress-raise, assigned-new, weight-new, weight-raise, test_same, found-before, found-first, has-insert, has-itself}
+use Rattle.infer_reached.proofs.Progress.{progress-new, assigned-new, weight-new, test_same, found-before, found-first, has-insert, has-itself}
 use Rattle.std.specs.FinMap.{insert, get, empty, get-empty}
 use Rattle.std.specs.Ordering.{nat_cmp}
 
@@ -42,7 +40,7 @@ was_read right reads b o before after s e h =
     record {
       value = h.value ∙ ap right sets;
       within = subst (λ xs. All (λ w. Contains (reads (assigned (b, o))) w) xs) (sym noted) (subst (λ a. All (λ w. Contains (reads a) w) h.more) sets h.within);
-      local = λ q same. h.local q (subst (λ a. Agree h.more a q) (sym sets) (subst (λ xs. Agree xs (assigned (b, o)) q) noted same))
+      local = λ q same. h.local q (subst (λ a. Agree h.more a q) (sym sets) (subst (λ xs. Agree xs (assigned (b, o)) q) noted same));
     }
 
 pub Contains-cons_cases : (x : ℕ) (xs : List ℕ) (w : ℕ) → Contains (x ∷ xs) w → (x ≡ w) ⊎ Contains xs w
@@ -106,9 +104,16 @@ module _ (count limit : ℕ) (right : ℕ → Assignment → Set) (mono : Monoto
   step p w ws (Some s) e lt g rest =
       let r = rest p g in
       record {
-        progress = r.progress; same = r.same; keeps = r.keeps; more = r.more; run = r.run; still = r.still; apart = r.apart; new = r.new;
+        progress = r.progress;
+        same = r.same;
+        keeps = r.keeps;
+        more = r.more;
+        run = r.run;
+        still = r.still;
+        apart = r.apart;
+        new = r.new;
         from = λ z c. Contains-tail w ws z (r.from z c);
-        has = λ z c. elim (Contains-cons_cases w ws z c) [ inl is ↦ subst (λ x. HasSet (b, (extended b p ws).0) x) is (r.keeps w (s, e)) | inr d ↦ r.has z d ]
+        has = λ z c. elim (Contains-cons_cases w ws z c) [ inl is ↦ subst (λ x. HasSet (b, (extended b p ws).0) x) is (r.keeps w (s, e)) | inr d ↦ r.has z d ];
       }
   step p w ws None e lt g rest =
       let m : Map × List ℕ = (insert p.0 w none, p.1 ++ w ∷ []) in
@@ -129,14 +134,13 @@ module _ (count limit : ℕ) (right : ℕ → Assignment → Set) (mono : Monoto
         still = inr (elim r.still [
           | inl is ↦ (subst (λ (x : Map × List ℕ). weight count limit (b, p.0) < weight count limit (b, x.0)) (sym is) less, subst (λ (x : Map × List ℕ). length p.1 < length x.1) (sym is) (longer p.1 w))
           | inr more ↦ let a = less in let l = longer p.1 w in let m1 = more.0 in let m2 = more.1 in (omega arith, omega arith)
-        ])
+        ]);
       }
 
   pub extends : (ws : List ℕ) (p : Map × List ℕ) → ((w : ℕ) → Contains ws w → w < count) → InProgress count limit right (b, p.0) p.1 → Extends p ws (extended b p ws)
   extends [] p in_range g = none_more p g
   extends (w ∷ ws) p in_range g =
       step p w ws (found (b, p.0) w) refl (in_range w (Contains-head w ws)) g (λ m gm. extends ws m (λ z c. in_range z (Contains-tail w ws z c)) gm)
-
 
   pub read-in_range : (reads noted : List ℕ) → All (λ w. Contains reads w) noted → All (λ w. w < count) reads → (w : ℕ) → Contains noted w → w < count
   read-in_range reads noted all few w c = All-contains (λ w. w < count) reads w few (All-contains (λ w. Contains reads w) noted w all c)
@@ -181,7 +185,7 @@ module _ (count limit : ℕ) (right : ℕ → Assignment → Set) (mono : Monoto
     there = λ v c. absurd (no_run run r v c);
     counted = λ v c. absurd (no_run run r v c);
     stored = λ v f. absurd (no_set o h v f);
-    listed = λ v s f. absurd (let n = found-none b o e h v in cc)
+    listed = λ v s f. absurd (let n = found-none b o e h v in cc);
   }
 
   pub first_added : (b o : Map) (run : List ℕ) (v : ℕ) (q : Map × List ℕ) → found (b, o) v ≡ None → q ≡ added_by (found (b, o) v) o run v → q ≡ (insert o v none, run ++ v ∷ [])
@@ -191,10 +195,9 @@ module _ (count limit : ℕ) (right : ℕ → Assignment → Set) (mono : Monoto
   first_progress b o run v q be oe re qe lt =
       let f = found-none b o be oe v in
       subst (λ (x : Map × List ℕ). InProgress count limit right (b, x.0) x.1) (sym (first_added b o run v q f qe))
-        (progress-new count limit right mono fits b o run v (progress-none b o run be oe re) f lt)
+      (progress-new count limit right mono fits b o run v (progress-none b o run be oe re) f lt)
 
   pub first_has : (b o : Map) (run : List ℕ) (v : ℕ) (q : Map × List ℕ) → b ≡ empty → o ≡ empty → run ≡ [] → q ≡ added_by (found (b, o) v) o run v → v < count → HasSet (b, q.0) v
   first_has b o run v q be oe re qe lt =
       let f = found-none b o be oe v in
       subst (λ (x : Map × List ℕ). HasSet (b, x.0) v) (sym (first_added b o run v q f qe)) (has-itself b o v none (found-first b o v f))
-

@@ -1,19 +1,19 @@
 -- A variable is added, or its set rises.
-use Rattle.std.proofs.Common.{◌≡◌, ◌≢◌, ℕ, zero, suc, ◌+◌, ◌*◌, ◌<◌, ◌≤◌, Bool, true, false, cond, ◌⊎◌, inl, inr, List, [], ◌∷◌, ◌++◌, refl, sym, ◌∙◌, ap, subst, arith}
+use Rattle.std.proofs.Common.{◌≡◌, ℕ, zero, suc, ◌+◌, ◌*◌, ◌<◌, ◌≤◌, Bool, true, false, cond, ◌⊎◌, inl, inr, List, [], ◌∷◌, ◌++◌, refl, sym, ◌∙◌, ap, subst, arith}
 use Rattle.std.specs.Prelude.{IsSome, Option, Some, None, ◌==◌}
 use Rattle.std.specs.List.{Contains}
 use Rattle.std.proofs.lemmas.Bool.Decides.{nat_tests}
 use Rattle.std.proofs.lemmas.List.Elements.{Contains-push, Contains-push_cases, Contains-append_left}
 use Rattle.std.specs.Ordering.{nat_cmp, eq_by_cmp}
 use Rattle.std.specs.Cmp.{nat_cmp_total}
-use Rattle.std.specs.FinMap.{FinMap, get, insert, get-insert}
+use Rattle.std.specs.FinMap.{get, insert, get-insert}
 use Rattle.infer_sets.specs.Sets.{Set, none, Below, Fits, rank}
-use Rattle.infer_sets.proofs.SetOrder.{below-refl, below-trans, below-antisym, below-none, fits-none, rank-le, rank-most, rank-none}
-use Rattle.infer_equations.specs.Assignment.{Assignment, Map, Within, AllFit, Agree, or_none, either}
+use Rattle.infer_sets.proofs.SetOrder.{below-refl, below-trans, below-none, rank-le, rank-most}
+use Rattle.infer_equations.specs.Assignment.{Assignment, Map, Within, AllFit, or_none, either}
 use Rattle.infer_equations.specs.Least.{least}
 use Rattle.infer_reached.specs.Tables.{found, assigned}
 use Rattle.infer_reached.specs.InProgress.{HasSet, InProgress, weigh, total, weight}
-use Rattle.infer_equations.proofs.Rounds.{Monotone, Limited, below-eq, least-solves, least-within}
+use Rattle.infer_equations.proofs.Rounds.{Monotone, Limited, below-eq, least-solves}
 
 either-none : (o p : Option Set) (c : Bool) (s : Set) → (c ≡ true → o ≡ None) → either o (cond c (Some s) p) ≡ cond c (Some s) (either o p)
 either-none o p true s h = ap (λ x. either x (Some s)) (h refl)
@@ -140,10 +140,10 @@ weight-insert : (count limit : ℕ) (b o : Map) (v : ℕ) (s : Set) → get b v 
 unfolding weight
 weight-insert count limit b o v s apart more lt =
     total-grows (λ q. weigh limit (found (b, o) q)) (λ q. weigh limit (found (b, insert o v s) q))
-      (λ q. subst (λ x. weigh limit (found (b, o) q) ≤ weigh limit x) (sym (found-insert b o v s q apart))
-        (weigh-same limit (found (b, o)) q s (found (b, o) q) (q == v) (λ e. let m : weigh limit (found (b, o) q) < weigh limit (Some s) = subst (λ z. weigh limit (found (b, o) z) < weigh limit (Some s)) (sym (test_same q v e)) more in omega arith)))
-      v count lt
-      (subst (λ x. weigh limit (found (b, o) v) < weigh limit x) (sym (found-insert b o v s v apart ∙ ap (λ c. cond c (Some s) (found (b, o) v)) (test_itself v))) more)
+    (λ q. subst (λ x. weigh limit (found (b, o) q) ≤ weigh limit x) (sym (found-insert b o v s q apart))
+    (weigh-same limit (found (b, o)) q s (found (b, o) q) (q == v) (λ e. let m : weigh limit (found (b, o) q) < weigh limit (Some s) = subst (λ z. weigh limit (found (b, o) z) < weigh limit (Some s)) (sym (test_same q v e)) more in omega arith)))
+    v count lt
+    (subst (λ x. weigh limit (found (b, o) v) < weigh limit x) (sym (found-insert b o v s v apart ∙ ap (λ c. cond c (Some s) (found (b, o) v)) (test_itself v))) more)
 
 pub weight-new : (count limit : ℕ) (b o : Map) (w : ℕ) → found (b, o) w ≡ None → w < count → weight count limit (b, o) < weight count limit (b, insert o w none)
 unfolding weigh
@@ -193,15 +193,15 @@ module _ (count limit : ℕ) (right : ℕ → Assignment → Set) (mono : Monoto
         within = subst (λ a. Within a (least count limit right)) (sym same) g.within;
         fits = subst (λ a. AllFit limit a) (sym same) g.fits;
         rising = λ v c. subst (λ a. Below (a v) (right v a)) (sym same)
-          (elim (Contains-push_cases run w v c) [
-            | inl in_run ↦ g.rising v in_run
-            | inr is ↦ subst (λ z. Below (assigned (b, o) z) (right z (assigned (b, o)))) is (subst (λ s. Below s (right w (assigned (b, o)))) (sym (assigned-missing (b, o) w h)) (below-none _))
-          ]);
+            (elim (Contains-push_cases run w v c) [
+              | inl in_run ↦ g.rising v in_run
+              | inr is ↦ subst (λ z. Below (assigned (b, o) z) (right z (assigned (b, o)))) is (subst (λ s. Below s (right w (assigned (b, o)))) (sym (assigned-missing (b, o) w h)) (below-none _))
+            ]);
         apart = λ v c. elim (Contains-push_cases run w v c) [ inl in_run ↦ g.apart v in_run | inr is ↦ subst (λ z. get b z ≡ None) is apart ];
         there = λ v c. elim (Contains-push_cases run w v c) [ inl in_run ↦ has-insert b o w none v apart (g.there v in_run) | inr is ↦ subst (λ z. HasSet (b, insert o w none) z) is (has-itself b o w none apart) ];
         counted = λ v c. elim (Contains-push_cases run w v c) [ inl in_run ↦ g.counted v in_run | inr is ↦ subst (λ z. z < count) is lt ];
         stored = λ v h. stored-new run w v none (v == w) refl (get o v) (subst (λ x. IsSome x) (get-put o w none v) h) (g.stored v);
-        listed = λ v s h. listed-new run w v s (v == w) refl (found (b, o) v) (sym (found-insert b o w none v apart) ∙ h) (g.listed v s)
+        listed = λ v s h. listed-new run w v s (v == w) refl (found (b, o) v) (sym (found-insert b o w none v apart) ∙ h) (g.listed v s);
       }
 
   cond-below : (c : Bool) (x y z : Set) → (c ≡ true → Below x z) → Below y z → Below (cond c x y) z
@@ -218,11 +218,13 @@ module _ (count limit : ℕ) (right : ℕ → Assignment → Set) (mono : Monoto
 
   -- to give a variable its right side raises the assignment
   pub raise-within : (b o : Map) (run : List ℕ) (v : ℕ) (s : Set) → InProgress count limit right (b, o) run → Contains run v → s ≡ right v (assigned (b, o)) → Within (assigned (b, o)) (assigned (b, insert o v s))
-  raise-within b o run v s g c e = record { at = λ q.
-      subst (λ x. Below (assigned (b, o) q) x) (sym (assigned-insert b o v s q (g.apart v c)))
+  raise-within b o run v s g c e = record {
+    at = λ q.
+        subst (λ x. Below (assigned (b, o) q) x) (sym (assigned-insert b o v s q (g.apart v c)))
         (cond-above (q == v) s (assigned (b, o) q) (assigned (b, o) q)
-          (λ t. subst (λ z. Below (assigned (b, o) z) s) (sym (test_same q v t)) (subst (λ x. Below (assigned (b, o) v) x) (sym e) (g.rising v c)))
-          (below-refl _)) }
+        (λ t. subst (λ z. Below (assigned (b, o) z) s) (sym (test_same q v t)) (subst (λ x. Below (assigned (b, o) v) x) (sym e) (g.rising v c)))
+        (below-refl _));
+  }
 
   pub progress-raise : (b o : Map) (run : List ℕ) (v : ℕ) (s : Set) → InProgress count limit right (b, o) run → Contains run v → s ≡ right v (assigned (b, o)) → InProgress count limit right (b, insert o v s) run
   progress-raise b o run v s g c e =
@@ -233,20 +235,24 @@ module _ (count limit : ℕ) (right : ℕ → Assignment → Set) (mono : Monoto
       let lt = g.counted v c in
       let up = raise-within b o run v s g c e in
       record {
-        within = record { at = λ q. subst (λ x. Below x (low q)) (sym (assigned-insert b o v s q apart))
-          (cond-below (q == v) s (a q) (low q)
-            (λ t. subst (λ z. Below s (low z)) (sym (test_same q v t))
+        within = record {
+          at = λ q. subst (λ x. Below x (low q)) (sym (assigned-insert b o v s q apart))
+              (cond-below (q == v) s (a q) (low q)
+              (λ t. subst (λ z. Below s (low z)) (sym (test_same q v t))
               (subst (λ x. Below x (low v)) (sym e) (subst (λ x. Below (right v a) x) (least-solves count limit right mono fits v lt) (mono v a low lt g.within))))
-            (g.within.at q)) };
-        fits = record { at = λ q. subst (λ x. Fits limit x) (sym (assigned-insert b o v s q apart))
-          (cond-fits (q == v) s (a q) (subst (λ x. Fits limit x) (sym e) (fits v a lt g.fits)) (g.fits.at q)) };
+              (g.within.at q));
+        };
+        fits = record {
+          at = λ q. subst (λ x. Fits limit x) (sym (assigned-insert b o v s q apart))
+              (cond-fits (q == v) s (a q) (subst (λ x. Fits limit x) (sym e) (fits v a lt g.fits)) (g.fits.at q));
+        };
         rising = λ w d. below-trans _ (right w a) _
-          (subst (λ x. Below x (right w a)) (sym (assigned-insert b o v s w apart))
+            (subst (λ x. Below x (right w a)) (sym (assigned-insert b o v s w apart))
             (cond-below (w == v) s (a w) (right w a) (λ t. subst (λ z. Below s (right z a)) (sym (test_same w v t)) (below-eq _ _ e)) (g.rising w d)))
-          (mono w a a' (g.counted w d) up);
+            (mono w a a' (g.counted w d) up);
         apart = g.apart;
         there = λ w d. has-insert b o v s w apart (g.there w d);
         counted = g.counted;
         stored = λ w h. stored-raise run v c w s (w == v) refl (get o w) (subst (λ x. IsSome x) (get-put o v s w) h) (g.stored w);
-        listed = λ w x h. listed-raise run v c w s x (w == v) refl (found (b, o) w) (sym (found-insert b o v s w apart) ∙ h) (g.listed w x)
+        listed = λ w x h. listed-raise run v c w s x (w == v) refl (found (b, o) w) (sym (found-insert b o v s w apart) ∙ h) (g.listed w x);
       }

@@ -1,13 +1,12 @@
 -- Where nothing is left to do, each set of the tables is that of the least solution.
-use Rattle.std.proofs.Common.{◌≡◌, ◌≢◌, ℕ, ◌+◌, ◌<◌, ◌≤◌, Bool, true, false, cond, ◌⊎◌, inl, inr, List, refl, sym, ◌∙◌, ap, subst, arith}
+use Rattle.std.proofs.Common.{◌≡◌, ℕ, ◌<◌, inl, inr, refl, sym, ◌∙◌, ap, subst}
 use Rattle.std.specs.Prelude.{Option, Some, None}
-use Rattle.std.specs.List.{Contains}
-use Rattle.infer_sets.specs.Sets.{Set, none, Below, Fits}
-use Rattle.infer_sets.proofs.SetOrder.{below-refl, below-trans, below-antisym, below-none}
-use Rattle.infer_equations.specs.Assignment.{Assignment, Map, Within, AllFit, Agree, or_none}
+use Rattle.infer_sets.specs.Sets.{Set, Below}
+use Rattle.infer_sets.proofs.SetOrder.{below-refl, below-antisym}
+use Rattle.infer_equations.specs.Assignment.{Assignment, Map, Within, or_none}
 use Rattle.infer_equations.specs.Least.{least}
 use Rattle.infer_reached.specs.Tables.{found, assigned}
-use Rattle.infer_reached.specs.Settled.{IsSettled, Settled}
+use Rattle.infer_reached.specs.Settled.{IsSettled}
 use Rattle.infer_equations.proofs.Rounds.{Monotone, Limited, below-eq, least-solves, least-within}
 
 -- the tables' sets, and the least solution elsewhere
@@ -52,5 +51,5 @@ module _ (count limit : ℕ) (right : ℕ → Assignment → Set) (mono : Monoto
   settled_is_least t within settled v s e =
       let all = least-within count limit right mono fits (fill t) (λ v lt. closed_by t within settled v lt (found t v) refl) in
       below-antisym s (low v)
-        (subst (λ o. Below (or_none o) (low v)) e (within.at v))
-        (subst (λ o. Below (low v) (filled low o v)) e (all.at v))
+      (subst (λ o. Below (or_none o) (low v)) e (within.at v))
+      (subst (λ o. Below (low v) (filled low o v)) e (all.at v))

@@ -1,13 +1,11 @@
 -- The variables that were read are added to the table, each once, with the empty set.
-use Rattle.std.specs.Prelude.{◌≡◌, ℕ, ◌+◌, ◌<◌, List, [], ◌∷◌, ◌++◌, length, Some, None, Option, ◌⊎◌, Bool, true, false, slice_index}
+use Rattle.std.specs.Prelude.{◌≡◌, ℕ, List, [], ◌∷◌, ◌++◌, Some, None, Option}
 use Rattle.std.specs.List.{All, Contains}
 use Rattle.std.specs.FinMap as map
 use Rattle.infer_sets.specs.Sets.{Set, none}
 use Rattle.infer_equations.specs.Assignment.{Assignment, Map, Agree}
 use Rattle.infer_equations.specs.Least.{least}
 use Rattle.infer_reached.specs.Tables.{found, assigned}
-use Rattle.infer_reached.specs.InProgress.{HasSet, InProgress, weight}
-use Rattle.infer_reached.specs.Settled.{Settled}
 
 -- a variable that no table has is added with the empty set, and reached
 abbrev pub added_by : Option Set → Map → List ℕ → ℕ → Map × List ℕ

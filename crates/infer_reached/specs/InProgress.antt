@@ -1,8 +1,8 @@
 -- What stays true of the tables while sets rise to the least solution.
 use Rattle.std.specs.Prelude.{◌≡◌, ℕ, zero, suc, ◌+◌, ◌<◌, List, Some, None, Option, ◌⊎◌, IsSome}
-use Rattle.std.specs.List.{All, Contains}
+use Rattle.std.specs.List.{Contains}
 use Rattle.std.specs.FinMap as map
-use Rattle.infer_sets.specs.Sets.{Set, Below, Fits, rank}
+use Rattle.infer_sets.specs.Sets.{Set, Below, rank}
 use Rattle.infer_equations.specs.Assignment.{Assignment, Map, Within, AllFit}
 use Rattle.infer_equations.specs.Least.{least}
 use Rattle.infer_reached.specs.Tables.{found, assigned}

@@ -1,5 +1,5 @@
 -- When a variable's set needs no further look.
-use Rattle.std.specs.Prelude.{◌≡◌, ℕ, List, Some, Option, ◌⊎◌}
+use Rattle.std.specs.Prelude.{◌≡◌, ℕ, List, Some, ◌⊎◌}
 use Rattle.std.specs.List.{Contains}
 use Rattle.infer_sets.specs.Sets.{Set}
 use Rattle.infer_equations.specs.Assignment.{Assignment, Map, Agree}

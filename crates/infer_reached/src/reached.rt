@@ -12,7 +12,13 @@ use lint_values::Memory;
 use std::alloc::Global;
 
 /// Adds a variable with the empty set where neither table has it.
-pub fn add_one(alloc: Global, base: &Solved, own: &mut Table, run: &mut Vec<u64>, var: u64) -> Result<(), Memory>
+pub fn add_one(
+    alloc: Global,
+    base: &Solved,
+    own: &mut Table,
+    run: &mut Vec<u64>,
+    var: u64,
+) -> Result<(), Memory>
     ensures { OnOk result ((own.new, run.new.items) ≡ added_by (found (base.now, own.old) var) own.old run.old.items var) }
 {
     if !has(base, own, var) {
@@ -30,7 +36,13 @@ fn has(base: &Solved, own: &Table, var: u64) -> bool
 }
 
 /// Adds each variable with the empty set where neither table has it.
-pub fn add_all(alloc: Global, base: &Solved, own: &mut Table, run: &mut Vec<u64>, noted: &[u64]) -> Result<(), Memory>
+pub fn add_all(
+    alloc: Global,
+    base: &Solved,
+    own: &mut Table,
+    run: &mut Vec<u64>,
+    noted: &[u64],
+) -> Result<(), Memory>
     ensures { OnOk result ((own.new, run.new.items) ≡ extended base.now (own.old, run.old.items) noted.now) }
 {
     for var in noted {

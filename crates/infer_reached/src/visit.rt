@@ -16,7 +16,14 @@ pub struct Visit {
 }
 
 /// Evaluates the right side of a variable under solved sets and, behind them, sets in progress.
-pub fn evaluate<E: Equations, L: Ledger>(alloc: Global, eqs: &E, base: &Solved, own: &Table, var: u64, steps: &mut Steps<L>) -> Result<Visit, Memory>
+pub fn evaluate<E: Equations, L: Ledger>(
+    alloc: Global,
+    eqs: &E,
+    base: &Solved,
+    own: &Table,
+    var: u64,
+    steps: &mut Steps<L>,
+) -> Result<Visit, Memory>
     requires { var < E.count_of eqs.now }
     ensures step { steps.new ≡ steps.old + 1 }
     ensures read { IfOk result (λ r. WasRead (E.right eqs.now var) (E.reads eqs.now var) (base.now, own.now) r.noted.items r.set) }

@@ -1,4 +1,3 @@
-use Rattle.std.proofs.Common.{ℕ}
 use Rattle.infer_plain.specs.Sweep.{Swept}
 use Rattle.infer_plain.proofs.plain.sweep.Given as goal
 
