@@ -1,0 +1,10 @@
+//! Solvers of equations over sets of abstract values, and tables of solved sets.
+#![tactic(auto)]
+
+mod frozen;
+mod solver;
+
+pub use frozen::Frozen;
+pub use infer_equations::{Equations, Steps, View, least_solves};
+pub use infer_plain::Plain;
+pub use solver::Solver;

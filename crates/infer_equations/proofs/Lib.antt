@@ -1,0 +1,4 @@
+pub mod Rounds
+pub mod Reading
+pub mod Entries
+pub mod Overlay

@@ -1,0 +1,4 @@
+pub mod Assignment
+pub mod Least
+pub mod Seen
+pub mod Reading

@@ -1,0 +1,123 @@
+-- Sets in progress become solved, one after another; or those that did are taken out again.
+use Rattle.std.proofs.Common.{◌≡◌, ℕ, zero, suc, ◌+◌, ◌<◌, ◌≤◌, Bool, true, false, cond, ◌||◌, ◌⊎◌, inl, inr, List, [], ◌∷◌, length, get_or, take, drop, refl, sym, ◌∙◌, ap, subst, arith, below_more, add-one, drop-cons}
+use Rattle.std.specs.Prelude.{Option, Some, None, IsSome, nat_eq, ◌==◌, Result, Ok, Err, is_err, OnOk, OnErr}
+use Rattle.std.specs.List.{Contains, list_any}
+use Rattle.std.specs.Ordering.{nat_cmp, eq_by_cmp}
+use Rattle.std.specs.Cmp.{nat_cmp_total}
+use Rattle.std.proofs.lemmas.Bool.Decides.{nat_tests}
+use Rattle.std.proofs.lemmas.List.{get_or_read}
+use Rattle.std.specs.FinMap.{FinMap, get, insert, remove, get-insert, get-remove, same_map, nat_cmp-IsAntisymmetric}
+use Rattle.infer_sets.specs.Sets.{Set}
+use Rattle.infer_equations.specs.Assignment.{Map, either, overlaid}
+use Rattle.infer_equations.proofs.Overlay.{get-overlaid}
+use Rattle.infer_reached.proofs.Extension.{any_contains}
+use Rattle.infer_reached.proofs.Progress.{test_same, test_itself}
+use Rattle.infer_lazy.specs.Kept.{kept_by}
+
+same_test : (q v : ℕ) → eq_by_cmp nat_cmp q v ≡ (q == v)
+same_test q v = grind (arith, nat_tests)
+
+get-put : (o : Map) (v : ℕ) (s : Set) (q : ℕ) → get (insert o v s) q ≡ cond (q == v) (Some s) (get o q)
+get-put o v s q = get-insert nat_cmp_total o v s q ∙ ap (λ c. cond c (Some s) (get o q)) (same_test q v)
+
+get-taken : (o : Map) (v q : ℕ) → get (remove o v) q ≡ cond (q == v) None (get o q)
+get-taken o v q = get-remove nat_cmp_total o v q ∙ ap (λ c. cond c None (get o q)) (same_test q v)
+
+-- what is true after the first i of the listed variables were moved
+pub record Moved (work own : Map) (run : List ℕ) (i : ℕ) (work' own' : Map) : Type 0 where
+  pub both : (q : ℕ) → either (get work' q) (get own' q) ≡ either (get work q) (get own q)
+  pub gone : (k : ℕ) → k < i → get work' (get_or run k 0) ≡ None
+  pub never : (q : ℕ) → get work q ≡ None → get work' q ≡ None
+  pub others : (q : ℕ) → get work q ≡ None → get own' q ≡ get own q
+
+pub moved-none : (work own : Map) (run : List ℕ) → Moved work own run 0 work own
+moved-none work own run = record { both = λ q. refl; gone = λ k l. absurd (omega arith); never = λ q e. e; others = λ q e. refl }
+
+both_at : (v : ℕ) (x : Option Set) (work own : Map) → get work v ≡ x → (q : ℕ) (c : Bool) → (q == v) ≡ c → either (cond c None (get work q)) (get (kept_by x v own) q) ≡ either (get work q) (get own q)
+both_at v None work own e q true t = ap (λ y. either y (get own q)) (sym (ap (λ z. get work z) (test_same q v t) ∙ e))
+both_at v None work own e q false t = refl
+both_at v (Some s) work own e q true t =
+    get-put own v s q ∙ ap (λ c. cond c (Some s) (get own q)) t
+    ∙ ap (λ y. either y (get own q)) (sym (ap (λ z. get work z) (test_same q v t) ∙ e))
+both_at v (Some s) work own e q false t = ap (λ y. either (get work q) y) (get-put own v s q ∙ ap (λ c. cond c (Some s) (get own q)) t)
+
+other_at : (v : ℕ) (x : Option Set) (work own : Map) → get work v ≡ x → (q : ℕ) → get work q ≡ None → (c : Bool) → (q == v) ≡ c → get (kept_by x v own) q ≡ get own q
+other_at v None work own e q n c t = refl
+other_at v (Some s) work own e q n true t = absurd (let a = sym (ap (λ z. get work z) (test_same q v t) ∙ e) ∙ n in cc)
+other_at v (Some s) work own e q n false t = get-put own v s q ∙ ap (λ c. cond c (Some s) (get own q)) t
+
+none_by : (c : Bool) (x : Option Set) → x ≡ None → cond c None x ≡ None
+none_by true x e = refl
+none_by false x e = e
+
+-- one more
+pub moved-more : (work own : Map) (run : List ℕ) (i v : ℕ) (w o w' o' : Map) → Moved work own run i w o → v ≡ get_or run i 0 → o' ≡ kept_by (get w v) v o → w' ≡ remove w v → Moved work own run (i + 1) w' o'
+moved-more work own run i v w o w' o' m at oe we = record {
+  both = λ q. ap (λ y. either (get y q) (get o' q)) we ∙ ap (λ y. either (get (remove w v) q) (get y q)) oe
+    ∙ ap (λ y. either y (get (kept_by (get w v) v o) q)) (get-taken w v q) ∙ both_at v (get w v) w o refl q (q == v) refl ∙ m.both q;
+  gone = below_more (λ k. get w' (get_or run k 0) ≡ None) i
+    (λ k l. ap (λ y. get y (get_or run k 0)) we ∙ get-taken w v (get_or run k 0) ∙ none_by (get_or run k 0 == v) _ (m.gone k l))
+    (ap (λ y. get y (get_or run i 0)) we ∙ get-taken w v (get_or run i 0) ∙ ap (λ c. cond c None (get w (get_or run i 0))) (ap (λ z. get_or run i 0 == z) at ∙ test_itself (get_or run i 0)));
+  never = λ q e. ap (λ y. get y q) we ∙ get-taken w v q ∙ none_by (q == v) _ (m.never q e);
+  others = λ q e. ap (λ y. get y q) oe ∙ other_at v (get w v) w o refl q (m.never q e) (q == v) refl ∙ m.others q e
+}
+
+at_place : (run : List ℕ) (v k : ℕ) → k < length run → get_or run k v ≡ v → get_or run k 0 ≡ v
+at_place run v k lt e = sym (get_or_read run k v lt (sym e) 0)
+
+gone_by : (work own : Map) (run : List ℕ) (w o : Map) → Moved work own run (length run) w o → (q : ℕ) (x : Option Set) → get work q ≡ x → (IsSome x → Contains run q) → get w q ≡ None
+gone_by work own run w o m q None e h = m.never q e
+gone_by work own run w o m q (Some s) e h =
+    let c = h refl in
+    subst (λ z. get w z ≡ None) (at_place run q c.0 c.1 c.2) (m.gone c.0 c.1)
+
+-- all were moved
+pub moved-all : (work own : Map) (run : List ℕ) (w o : Map) → ((v : ℕ) → IsSome (get work v) → Contains run v) → Moved work own run (length run) w o → o ≡ overlaid work own
+moved-all work own run w o stored m = same_map nat_cmp_total nat_cmp-IsAntisymmetric o (overlaid work own) (λ q.
+    ap (λ x. either x (get o q)) (sym (gone_by work own run w o m q (get work q) refl (stored q))) ∙ m.both q ∙ sym (get-overlaid work own q))
+
+some_true : (c d : Bool) → c ≡ d → c ≡ true → d ≡ true
+some_true c d e h = sym e ∙ h
+
+back_at : (work own : Map) (run : List ℕ) (i : ℕ) (w o : Map) → ((v : ℕ) → Contains run v → get own v ≡ None) → ((v : ℕ) → IsSome (get work v) → Contains run v)
+    → Moved work own run i w o → (q : ℕ) (c : Bool) → list_any (nat_eq q) run ≡ c → (x : Option Set) → get work q ≡ x → (Contains run q → list_any (nat_eq q) run ≡ true) → cond c None (get o q) ≡ get own q
+back_at work own run i w o apart stored m q true t x e any = sym (apart q (any_contains q run t))
+back_at work own run i w o apart stored m q false t None e any = m.others q e
+back_at work own run i w o apart stored m q false t (Some s) e any =
+    absurd (let c = any (stored q (subst IsSome (sym e) refl)) in let f = sym t ∙ c in cc)
+
+any_in : (q : ℕ) (run : List ℕ) → Contains run q → list_any (nat_eq q) run ≡ true
+any_in q [] c = absurd (let l = c.1 in omega arith)
+any_in q (k ∷ ks) (zero, l, e) = ap (λ z. nat_eq q z || list_any (nat_eq q) ks) e ∙ ap (λ b. b || list_any (nat_eq q) ks) (test_itself q)
+any_in q (k ∷ ks) (suc n, l, e) = later (nat_eq q k) _ (any_in q ks (n, omega arith, e))
+  where
+  later : (a b : Bool) → b ≡ true → (a || b) ≡ true
+  later true b h = refl
+  later false b h = h
+
+-- those that were moved are taken out
+pub moved-back : (work own : Map) (run : List ℕ) (i : ℕ) (w o o' : Map) → ((v : ℕ) → Contains run v → get own v ≡ None) → ((v : ℕ) → IsSome (get work v) → Contains run v)
+    → Moved work own run i w o → ((v : ℕ) → get o' v ≡ cond (list_any (nat_eq v) run) None (get o v)) → o' ≡ own
+moved-back work own run i w o o' apart stored m e = same_map nat_cmp_total nat_cmp-IsAntisymmetric o' own (λ q.
+    e q ∙ back_at work own run i w o apart stored m q (list_any (nat_eq q) run) refl (get work q) refl (any_in q run))
+
+taken_by : (c d : Bool) (x : Option Set) → cond c None (cond d None x) ≡ cond (d || c) None x
+taken_by true true x = refl
+taken_by true false x = refl
+taken_by false true x = refl
+taken_by false false x = refl
+
+-- one more variable is taken out, in front of those that are left
+pub taken-more : (o : Map) (v q : ℕ) (vs : List ℕ) → cond (list_any (nat_eq q) vs) None (get (remove o v) q) ≡ cond (list_any (nat_eq q) (v ∷ vs)) None (get o q)
+taken-more o v q vs = ap (λ x. cond (list_any (nat_eq q) vs) None x) (get-taken o v q) ∙ taken_by (list_any (nat_eq q) vs) (q == v) (get o q)
+
+pub drop-next : (run : List ℕ) (i : ℕ) → i < length run → drop i run ≡ get_or run i 0 ∷ drop (i + 1) run
+drop-next run i h = rw (add-one, drop-cons run i 0)
+
+pub err_of : {T F : Type 0} (r : Result T F) (P : Type 0) → is_err r ≡ true → OnErr r P → P
+err_of (Ok x) P e h = absurd (let f = e in cc)
+err_of (Err x) P e h = h
+
+pub ok_of : {T F : Type 0} (r : Result T F) (P : Type 0) → is_err r ≡ false → OnOk r P → P
+ok_of (Ok x) P e h = h
+ok_of (Err x) P e h = absurd (let f = e in cc)

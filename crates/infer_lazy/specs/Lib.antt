@@ -1,0 +1,3 @@
+pub mod Reach
+pub mod Worklist
+pub mod Kept

@@ -1,0 +1,138 @@
+// The least solution on demand, by a worklist over the variables that were reached.
+ghost use Rattle.std.specs.Prelude.{◌≡◌, ℕ, ◌+◌, ◌*◌, ◌<◌, ◌≤◌, ◌==◌, ◌&&◌, ◌++◌, [], ◌∷◌, List, IfOk, OnOk, OnErr, Some, None, IsSome, is_some, nat_lt, if◌then◌else◌, length, drop, false, true, ◌⊎◌, not};
+ghost use Rattle.std.specs.FinMap as map;
+ghost use Rattle.std.specs.List.{Contains, list_any};
+ghost use Rattle.infer_sets.specs.Sets.{none, is_below, Below};
+ghost use Rattle.infer_equations.specs.Assignment.{or_none};
+ghost use Rattle.infer_equations.specs.Least.{least};
+ghost use Rattle.infer_reached.specs.Tables.{found, assigned};
+ghost use Rattle.infer_reached.specs.InProgress.{InProgress, HasSet, weight};
+ghost use Rattle.infer_reached.specs.Extension.{extended, added_by, WasRead, AllLeast};
+ghost use Rattle.infer_lazy.specs.Reach.{IsCheap, Lacking, IsListed, AreSupported};
+ghost use Rattle.infer_lazy.specs.Worklist.{same_pair, with_pair, paired, readers, Lazy, credit};
+
+use infer_equations::{Equations, Solved, Steps, Table};
+use infer_reached::{add_all, add_one, evaluate, raise};
+use infer_sets::AbsSet;
+use lint_values::Memory;
+use std::alloc::Global;
+use std::sync::ledger::Ledger;
+
+fn has_pair(pairs: &[(u64, u64)], reader: u64, read: u64) -> bool
+    ensures { result ≡ list_any (same_pair (reader, read)) pairs.now }
+{
+    pairs.iter().any(|p| reader == p.0 && read == p.1)
+}
+
+fn pair_one(work: &Table, reader: u64, read: u64, pairs: &mut Vec<(u64, u64)>) -> Result<(), Memory>
+    ensures { OnOk result (pairs.new.items ≡ with_pair (map.get work.now read) reader read pairs.old.items) }
+{
+    if work.find(read).is_some() && !has_pair(pairs, reader, read) {
+        pairs.push((reader, read))?;
+    }
+    Ok(())
+}
+
+// Pairs the reader with each variable in progress that it read.
+fn pair_all(work: &Table, reader: u64, noted: &[u64], pairs: &mut Vec<(u64, u64)>) -> Result<(), Memory>
+    ensures { OnOk result (pairs.new.items ≡ paired work.now reader noted.now pairs.old.items) }
+{
+    for var in noted {
+        pair_one(work, reader, *var, pairs)?;
+    }
+    Ok(())
+}
+
+fn wake_one(pair: (u64, u64), var: u64, pending: &mut Vec<u64>) -> Result<(), Memory>
+    ensures { OnOk result (pending.new.items ≡ pending.old.items ++ (if pair.1 == var then pair.0 ∷ [] else [])) }
+{
+    if pair.1 == var {
+        pending.push(pair.0)?;
+    }
+    Ok(())
+}
+
+// Who read the variable waits.
+fn wake(var: u64, pairs: &[(u64, u64)], pending: &mut Vec<u64>) -> Result<(), Memory>
+    ensures { OnOk result (pending.new.items ≡ pending.old.items ++ readers var pairs.now) }
+{
+    for pair in pairs {
+        wake_one(*pair, var, pending)?;
+    }
+    Ok(())
+}
+
+// The variables that were added wait.
+fn wait_for(run: &[u64], known: usize, pending: &mut Vec<u64>) -> Result<(), Memory>
+    requires { known ≤ length run.now }
+    ensures { OnOk result (pending.new.items ≡ pending.old.items ++ drop known run.now) }
+{
+    pending.extend_from_slice(run.split_at(known).1)?;
+    Ok(())
+}
+
+// Gives a set to a variable where it does not lie within the present one, and then who read it waits.
+fn raise_and_wake(work: &mut Table, var: u64, set: AbsSet, pairs: &[(u64, u64)], pending: &mut Vec<u64>) -> Result<(), Memory>
+    requires { IsSome (map.get work.old var) }
+    ensures table { OnOk result (work.new ≡ (if is_below set (or_none (map.get work.old var)) then work.old else map.insert work.old var set)) }
+    ensures waits { OnOk result (pending.new.items ≡ (if is_below set (or_none (map.get work.old var)) then pending.old.items else pending.old.items ++ readers var pairs.now)) }
+{
+    let up = raise(work, var, set)?;
+    if up {
+        wake(var, pairs, pending)?;
+    }
+    Ok(())
+}
+
+// One step: a variable that waits is evaluated.
+fn step_one<E: Equations, L: Ledger>(
+    alloc: Global,
+    eqs: &E,
+    base: &Solved,
+    work: &mut Table,
+    run: &mut Vec<u64>,
+    pending: &mut Vec<u64>,
+    pairs: &mut Vec<(u64, u64)>,
+    start: u64,
+    var: u64,
+    steps: &mut Steps<L>,
+) -> Result<(), Memory>
+    requires { Lazy (E.count_of eqs.now) (E.limit_of eqs.now) (E.right eqs.now) (E.reads eqs.now) base.now work.old (start ∷ []) run.old.items (pending.old.items ++ var ∷ []) pairs.old.items }
+    ensures step { steps.new ≡ steps.old + 1 }
+    ensures lazy { OnOk result (Lazy (E.count_of eqs.now) (E.limit_of eqs.now) (E.right eqs.now) (E.reads eqs.now) base.now work.new (start ∷ []) run.new.items pending.new.items pairs.new.items) }
+    ensures cost { OnOk result (length pending.new.items + credit (E.limit_of eqs.now) (base.now, work.old) run.old.items pairs.old.items ≤ length pending.old.items + credit (E.limit_of eqs.now) (base.now, work.new) run.new.items pairs.new.items) }
+    ensures keeps { OnOk result ((w : ℕ) → HasSet (base.now, work.old) w → HasSet (base.now, work.new) w) }
+{
+    let known = run.len();
+    let visit = evaluate(alloc, eqs, base, work, var, steps)?;
+    add_all(alloc, base, work, run, &visit.noted)?;
+    wait_for(run, known, pending)?;
+    pair_all(work, var, &visit.noted, pairs)?;
+    raise_and_wake(work, var, visit.set, pairs, pending)?;
+    Ok(())
+}
+
+/// Every step from one variable that no table has. The answer lists the variables that were in progress: at Ok each of
+/// them is solved, in `work`.
+pub fn work_through<E: Equations, L: Ledger>(alloc: Global, eqs: &E, base: &Solved, work: &mut Table, start: u64, steps: &mut Steps<L>) -> Result<Vec<u64>, Memory>
+    requires start_in { start < E.count_of eqs.now }
+    requires empty { work.old ≡ map.empty }
+    requires right { AllLeast (E.count_of eqs.now) (E.limit_of eqs.now) (E.right eqs.now) (base.now, work.old) }
+    requires missing { found (base.now, work.old) start ≡ None }
+    ensures least { OnOk result (AllLeast (E.count_of eqs.now) (E.limit_of eqs.now) (E.right eqs.now) (base.now, work.new)) }
+    ensures has { OnOk result (HasSet (base.now, work.new) start) }
+    ensures listed { IfOk result (λ run. IsListed (least (E.count_of eqs.now) (E.limit_of eqs.now) (E.right eqs.now)) (E.reads eqs.now) base.now work.new (start ∷ []) run.items) }
+    ensures supported { OnOk result (AreSupported (least (E.count_of eqs.now) (E.limit_of eqs.now) (E.right eqs.now)) (E.right eqs.now) base.now work.new) }
+    ensures cost { OnOk result (IsCheap (E.limit_of eqs.now) (least (E.count_of eqs.now) (E.limit_of eqs.now) (E.right eqs.now)) (E.reads eqs.now) (λ v. IsSome (map.get work.new v)) steps.old steps.new) }
+    ensures cost_err { OnErr result (IsCheap (E.limit_of eqs.now) (least (E.count_of eqs.now) (E.limit_of eqs.now) (E.right eqs.now)) (E.reads eqs.now) (Lacking (least (E.count_of eqs.now) (E.limit_of eqs.now) (E.right eqs.now)) (E.reads eqs.now) base.now (start ∷ [])) steps.old steps.new) }
+{
+    let mut run = Vec::new(alloc);
+    let mut pending = Vec::new(alloc);
+    let mut pairs = Vec::new(alloc);
+    add_one(alloc, base, work, &mut run, start)?;
+    pending.push(start)?;
+    while let Some(var) = pending.pop() {
+        step_one(alloc, eqs, base, work, &mut run, &mut pending, &mut pairs, start, var, steps)?;
+    }
+    Ok(run)
+}

@@ -1,0 +1,12 @@
+use Rattle.std.proofs.Common.{◌-◌, ◌*◌, ◌+◌}
+use Rattle.infer_reached.specs.InProgress.{InProgress, HasSet, weight}
+use Rattle.infer_plain.proofs.plain.settle.Given as goal
+
+abbrev pub invariant-loop : goal.invariant-loop
+invariant-loop g l = record {
+  progress : InProgress (g.E.Equations.count_of l.fn.eqs) (g.E.Equations.limit_of l.fn.eqs) (g.E.Equations.right l.fn.eqs) (l.fn.base, l.own) l.run.items;
+  known : HasSet (l.fn.base, l.own) l.fn.var;
+}
+
+abbrev pub decreases-loop : goal.decreases-loop
+decreases-loop g l = g.E.Equations.count_of l.fn.eqs * (g.E.Equations.limit_of l.fn.eqs + 2) - weight (g.E.Equations.count_of l.fn.eqs) (g.E.Equations.limit_of l.fn.eqs) (l.fn.base, l.own)

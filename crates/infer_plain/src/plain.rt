@@ -1,0 +1,125 @@
+// The least solution by rounds over the variables that were reached.
+ghost use Rattle.std.specs.Prelude.{◌≡◌, ℕ, ◌+◌, ◌<◌, IfOk, OnOk, Some, None, IsSome, nat_lt, ◌||◌, length};
+ghost use Rattle.std.specs.FinMap as map;
+ghost use Rattle.std.specs.List.{Contains};
+ghost use Rattle.infer_equations.specs.Least.{least};
+ghost use Rattle.infer_reached.specs.Tables.{found};
+ghost use Rattle.infer_reached.specs.InProgress.{InProgress, HasSet};
+ghost use Rattle.infer_reached.specs.Extension.{AllLeast};
+ghost use Rattle.infer_plain.specs.Sweep.{Looked, Swept};
+
+use infer_equations::{Equations, Solved, Steps, Table};
+use infer_reached::{add_all, add_one, evaluate, raise};
+use infer_sets::AbsSet;
+use lint_values::Memory;
+use std::alloc::Global;
+use std::sync::ledger::Ledger;
+
+/// The plain solver. It keeps nothing from one call to the next.
+pub struct Plain;
+
+impl Plain {
+    /// The set of a variable in the least solution. It takes rounds over all variables reached so far, until none changes.
+    pub fn solve<E: Equations, L: Ledger>(
+        alloc: Global,
+        eqs: &E,
+        var: u64,
+        steps: &mut Steps<L>,
+    ) -> Result<AbsSet, Memory>
+        requires { var < E.count_of eqs.now }
+        ensures { IfOk result (λ s. s ≡ least (E.count_of eqs.now) (E.limit_of eqs.now) (E.right eqs.now) var) }
+    {
+        let none = Table::new(alloc);
+        let base = Solved::new(&none, &none);
+        let mut own = Table::new(alloc);
+        let mut run = Vec::new(alloc);
+        add_one(alloc, &base, &mut own, &mut run, var)?;
+        settle(alloc, eqs, &base, &mut own, &mut run, var, steps)?;
+        Ok(taken(&base, &mut own, var))
+    }
+}
+
+fn any_change(up: bool, known: usize, reached: usize) -> bool
+    ensures { result ≡ (up || nat_lt known reached) }
+{
+    up || known < reached
+}
+
+// One look at a variable: whether anything changed.
+fn look<E: Equations, L: Ledger>(
+    alloc: Global,
+    eqs: &E,
+    base: &Solved,
+    own: &mut Table,
+    run: &mut Vec<u64>,
+    var: u64,
+    steps: &mut Steps<L>,
+) -> Result<bool, Memory>
+    requires progress { InProgress (E.count_of eqs.now) (E.limit_of eqs.now) (E.right eqs.now) (base.now, own.old) run.old.items }
+    requires known { Contains run.old.items var }
+    ensures { IfOk result (λ changed. Looked (E.count_of eqs.now) (E.limit_of eqs.now) (E.right eqs.now) base.now (own.old, run.old.items) var (own.new, run.new.items) changed) }
+{
+    let known = run.len();
+    let visit = evaluate(alloc, eqs, base, own, var, steps)?;
+    add_all(alloc, base, own, run, &visit.noted)?;
+    let up = raise(own, var, visit.set)?;
+    Ok(any_change(up, known, run.len()))
+}
+
+fn either_rose(rose: bool, changed: bool) -> bool
+    ensures { result ≡ (rose || changed) }
+{
+    rose || changed
+}
+
+// One look at each variable that was reached: whether anything changed.
+fn sweep<E: Equations, L: Ledger>(
+    alloc: Global,
+    eqs: &E,
+    base: &Solved,
+    own: &mut Table,
+    run: &mut Vec<u64>,
+    steps: &mut Steps<L>,
+) -> Result<bool, Memory>
+    requires { InProgress (E.count_of eqs.now) (E.limit_of eqs.now) (E.right eqs.now) (base.now, own.old) run.old.items }
+    ensures { IfOk result (λ changed. Swept (E.count_of eqs.now) (E.limit_of eqs.now) (E.right eqs.now) base.now (own.old, run.old.items) (length run.old.items) (own.new, run.new.items) changed) }
+{
+    let mut changed = false;
+    for i in 0..run.len() {
+        let var = run[i];
+        let rose = look(alloc, eqs, base, own, run, var, steps)?;
+        changed = either_rose(rose, changed);
+    }
+    Ok(changed)
+}
+
+// Sweeps until nothing changes.
+fn settle<E: Equations, L: Ledger>(
+    alloc: Global,
+    eqs: &E,
+    base: &Solved,
+    own: &mut Table,
+    run: &mut Vec<u64>,
+    var: u64,
+    steps: &mut Steps<L>,
+) -> Result<(), Memory>
+    requires progress { InProgress (E.count_of eqs.now) (E.limit_of eqs.now) (E.right eqs.now) (base.now, own.old) run.old.items }
+    requires known { HasSet (base.now, own.old) var }
+    ensures least { OnOk result (AllLeast (E.count_of eqs.now) (E.limit_of eqs.now) (E.right eqs.now) (base.now, own.new)) }
+    ensures known { OnOk result (HasSet (base.now, own.new) var) }
+{
+    while sweep(alloc, eqs, base, own, run, steps)? {}
+    Ok(())
+}
+
+#[tactic(auto, unfolding(infer_reached::specs::Tables::found))]
+fn taken(base: &Solved, own: &mut Table, var: u64) -> AbsSet
+    requires empty { map.get base.now var ≡ None }
+    requires known { HasSet (base.now, own.old) var }
+    ensures { found (base.now, own.old) var ≡ Some result }
+{
+    match own.take(var) {
+        Some(set) => set,
+        None => unreachable!(),
+    }
+}

@@ -1,0 +1,3 @@
+pub mod Progress
+pub mod SettledIsLeast
+pub mod Extension

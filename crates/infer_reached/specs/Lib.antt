@@ -1,0 +1,4 @@
+pub mod Tables
+pub mod Settled
+pub mod InProgress
+pub mod Extension
