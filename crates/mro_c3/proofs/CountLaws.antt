@@ -21,20 +21,20 @@ one_other counts number more n differs = get_or-set_other counts number n more 0
 -- one write of a count that is one more
 pub CountsMore-set : (counts : List ℕ) (number more : ℕ) → number < length counts → more ≡ get_or counts number 0 + 1 → CountsMore (number ∷ []) counts (set counts number more)
 CountsMore-set counts number more below is = record {
-    at = λ n.
+  at = λ n.
       elim (same_or_other number n) [
-        inl same ↦ grind (arith, one_at counts number more n below same, same, is, occurrences-same number [], occurrences-nil number)
-      | inr differs ↦ omega (arith, one_other counts number more n differs, occurrences-other number [] n differs, occurrences-nil n)
+        | inl same ↦ grind (arith, one_at counts number more n below same, same, is, occurrences-same number [], occurrences-nil number)
+        | inr differs ↦ omega (arith, one_other counts number more n differs, occurrences-other number [] n differs, occurrences-nil n)
       ];
 }
 
 -- one write of a count that is one less
 pub CountsMore-set_less : (counts : List ℕ) (number less : ℕ) → number < length counts → less + 1 ≡ get_or counts number 0 → CountsMore (number ∷ []) (set counts number less) counts
 CountsMore-set_less counts number less below is = record {
-    at = λ n.
+  at = λ n.
       elim (same_or_other number n) [
-        inl same ↦ grind (arith, one_at counts number less n below same, same, is, occurrences-same number [], occurrences-nil number)
-      | inr differs ↦ omega (arith, one_other counts number less n differs, occurrences-other number [] n differs, occurrences-nil n)
+        | inl same ↦ grind (arith, one_at counts number less n below same, same, is, occurrences-same number [], occurrences-nil number)
+        | inr differs ↦ omega (arith, one_other counts number less n differs, occurrences-other number [] n differs, occurrences-nil n)
       ];
 }
 
@@ -42,8 +42,8 @@ CountsMore-set_less counts number less below is = record {
 pub counted_below : (counts : List ℕ) (number : ℕ) → 1 ≤ get_or counts number 0 → number < length counts
 counted_below counts number counted =
     elim (cases_lt number (length counts)) [
-      inl below ↦ below
-    | inr past ↦ absurd (omega (arith, counted, get_or_past counts number 0 past))
+      | inl below ↦ below
+      | inr past ↦ absurd (omega (arith, counted, get_or_past counts number 0 past))
     ]
 
 -- the head of a counted list has a place in the table, and a count

@@ -47,8 +47,8 @@ base_lists_below rows class orders lists below known size made is =
 
 pub HasBaseOrders-marked : (rows : List (List ℕ)) (k class : ℕ) (marks : List Bool) (orders : List (List ℕ)) → BasesAreBelow rows → MarksReached rows k marks → IsMarked marks class → length orders ≡ class → HasOrders rows marks orders → HasBaseOrders rows class orders
 HasBaseOrders-marked rows k class marks orders below reached marked size made = record {
-    ordered = λ base among. made.ordered base (omega (arith, size, below_row rows below class base among)) (reached.closed class base marked among);
-    below = subst (λ b. AllNumbersBelow b orders) size made.below;
+  ordered = λ base among. made.ordered base (omega (arith, size, below_row rows below class base among)) (reached.closed class base marked among);
+  below = subst (λ b. AllNumbersBelow b orders) size made.below;
 }
 
 -- a merge behind the class is its order
@@ -63,12 +63,12 @@ pub order_small : (class : ℕ) (lists : List (List ℕ)) (start order : List �
 order_small class lists start order below began behind =
     All-same (λ n. n < class + 1) order (class ∷ behind.merged) (behind.behind ∙ ap (λ xs. xs ++ behind.merged) began)
     (All-cons (λ n. n < class + 1) class behind.merged (omega arith)
-      (All-weaker (λ n. n < class) (λ n. n < class + 1) (λ n less. omega (arith, less)) behind.merged (Merges-below class lists behind.merged below behind.merges)))
+    (All-weaker (λ n. n < class) (λ n. n < class + 1) (λ n less. omega (arith, less)) behind.merged (Merges-below class lists behind.merged below behind.merges)))
 
 made_merges : (rows : List (List ℕ)) (orders : List (List ℕ)) {class : ℕ} {order : List ℕ} → HasBaseOrders rows class orders → IsOrder rows class order → (merged : List ℕ) × Merges (merged_lists (bases rows class) (order_at orders)) merged
 made_merges rows orders made (linearized {k} {merged} f others merges) =
     let agree : map f (bases rows k) ≡ map (order_at orders) (bases rows k) =
-      map_same f (order_at orders) (bases rows k) (λ base among. IsOrder-unique rows (others base among) (made.ordered base among)) in
+    map_same f (order_at orders) (bases rows k) (λ base among. IsOrder-unique rows (others base among) (made.ordered base among)) in
     (merged, subst (λ lists. Merges (lists ++ bases rows k ∷ []) merged) agree merges)
 
 -- where there is no merge the class has no order
@@ -87,27 +87,27 @@ no_order_reached rows k class marks reached marked none order ordered =
 
 pub HasOrders-nil : (rows : List (List ℕ)) (marks : List Bool) → HasOrders rows marks []
 HasOrders-nil rows marks = record {
-    ordered = λ n below. absurd (omega (arith, below));
-    below = All-nil (λ l. All (λ n. n < 0) l);
+  ordered = λ n below. absurd (omega (arith, below));
+  below = All-nil (λ l. All (λ n. n < 0) l);
 }
 
 HasOrders-push : (rows : List (List ℕ)) (class : ℕ) (marks : List Bool) (orders : List (List ℕ)) (order : List ℕ) → length orders ≡ class → HasOrders rows marks orders → (IsMarked marks class → IsOrder rows class order) → All (λ n. n < class + 1) order → HasOrders rows marks (orders ++ order ∷ [])
 HasOrders-push rows class marks orders order size made ordered small = record {
-    ordered = λ n below marked.
+  ordered = λ n below marked.
       elim (same_or_other n class) [
-        inl same ↦
-          let at : order_at (orders ++ order ∷ []) class ≡ order = get_or_push orders order [] class size in
-          subst (λ m. IsOrder rows m (order_at (orders ++ order ∷ []) m)) (sym same)
-          (subst (λ xs. IsOrder rows class xs) (sym at) (ordered (subst (λ m. IsMarked marks m) same marked)))
-      | inr differs ↦
-          let small_n : n < length orders = omega (arith, below, size, differs, length_push orders order) in
-          subst (λ xs. IsOrder rows n xs) (sym (get_or_append_left orders (order ∷ []) [] n small_n)) (made.ordered n small_n marked)
+        | inl same ↦
+            let at : order_at (orders ++ order ∷ []) class ≡ order = get_or_push orders order [] class size in
+            subst (λ m. IsOrder rows m (order_at (orders ++ order ∷ []) m)) (sym same)
+            (subst (λ xs. IsOrder rows class xs) (sym at) (ordered (subst (λ m. IsMarked marks m) same marked)))
+        | inr differs ↦
+            let small_n : n < length orders = omega (arith, below, size, differs, length_push orders order) in
+            subst (λ xs. IsOrder rows n xs) (sym (get_or_append_left orders (order ∷ []) [] n small_n)) (made.ordered n small_n marked)
       ];
-    below =
+  below =
       subst (λ b. AllNumbersBelow b (orders ++ order ∷ [])) (sym (length_push orders order ∙ ap (λ m. m + 1) size))
       (All-push (λ l. All (λ n. n < class + 1) l) orders order
-        (lists_in_room (length orders) (class + 1) orders (omega (arith, size)) made.below)
-        small);
+      (lists_in_room (length orders) (class + 1) orders (omega (arith, size)) made.below)
+      small);
 }
 
 -- with the order of a class that is reached
@@ -120,7 +120,7 @@ pub HasOrders-skipped : (rows : List (List ℕ)) (class : ℕ) (marks : List Boo
 HasOrders-skipped rows class marks orders after order unmarked size made empty pushed =
     subst (λ os. HasOrders rows marks os) (sym pushed)
     (HasOrders-push rows class marks orders order size made (λ marked. let h : false ≡ true = sym unmarked ∙ marked in absurd (cc))
-      (All-same (λ n. n < class + 1) order [] empty (All-nil (λ n. n < class + 1))))
+    (All-same (λ n. n < class + 1) order [] empty (All-nil (λ n. n < class + 1))))
 
 -- what is answered follows the laws
 pub laws_of : {E : Type 0} (rows : List (List ℕ)) (k : ℕ) (answer : Result (Option (List ℕ)) E) → BasesAreBelow rows → IfOk answer (λ order. IfSome order (IsOrder rows k)) → IfOk answer (λ order. IfSome order (IsLinear rows k))

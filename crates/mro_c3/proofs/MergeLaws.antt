@@ -29,8 +29,8 @@ unfolding Merges
 occurrences-merged_from lists [] n merges there = absurd (omega (arith, occurrences-used_up lists n merges))
 occurrences-merged_from lists (m ∷ ms) n merges there =
     elim (same_or_other m n) [
-      inl same ↦ grind (arith, occurrences-cons m ms n, same)
-    | inr differs ↦ omega (arith, occurrences-cons m ms n, occurrences-merged_from (map (without_head m) lists) ms n merges.1 (omega (arith, there, occurrences-without_other lists m n differs)))
+      | inl same ↦ grind (arith, occurrences-cons m ms n, same)
+      | inr differs ↦ omega (arith, occurrences-cons m ms n, occurrences-merged_from (map (without_head m) lists) ms n merges.1 (omega (arith, there, occurrences-without_other lists m n differs)))
     ]
 
 -- and no other
@@ -39,16 +39,16 @@ unfolding Merges
 occurrences-merged_to lists [] n merges there = absurd (omega (arith, occurrences-nil n))
 occurrences-merged_to lists (m ∷ ms) n merges there =
     elim (same_or_other m n) [
-      inl same ↦ subst (λ x. 1 ≤ occurrences (concat lists) x) same (next_of-in_lists lists m merges.0)
-    | inr differs ↦ omega (arith, occurrences-without_other lists m n differs, occurrences-merged_to (map (without_head m) lists) ms n merges.1 (omega (arith, there, occurrences-other m ms n differs)))
+      | inl same ↦ subst (λ x. 1 ≤ occurrences (concat lists) x) same (next_of-in_lists lists m merges.0)
+      | inr differs ↦ omega (arith, occurrences-without_other lists m n differs, occurrences-merged_to (map (without_head m) lists) ms n merges.1 (omega (arith, there, occurrences-other m ms n differs)))
     ]
 
 -- a number that is taken stands no further on
 taken_once : (lists : List (List ℕ)) (n : ℕ) (ns : List ℕ) → next_of lists ≡ Some n → Merges (map (without_head n) lists) ns → occurrences (n ∷ ns) n ≤ 1
 taken_once lists n ns next merges =
     elim (same_or_other (occurrences ns n) 0) [
-      inl none ↦ omega (arith, occurrences-same n ns, none)
-    | inr some ↦ absurd (omega (arith, some, next_of-in_no_tail lists n next, occurrences-without_head lists n, occurrences-merged_to (map (without_head n) lists) ns n merges (omega (arith, some))))
+      | inl none ↦ omega (arith, occurrences-same n ns, none)
+      | inr some ↦ absurd (omega (arith, some, next_of-in_no_tail lists n next, occurrences-without_head lists n, occurrences-merged_to (map (without_head n) lists) ns n merges (omega (arith, some))))
     ]
 
 -- and each once
@@ -57,8 +57,8 @@ unfolding Merges
 occurrences-merged_once lists [] n merges = omega (arith, occurrences-nil n)
 occurrences-merged_once lists (m ∷ ms) n merges =
     elim (same_or_other m n) [
-      inl same ↦ subst (λ x. occurrences (m ∷ ms) x ≤ 1) same (taken_once lists m ms merges.0 merges.1)
-    | inr differs ↦ omega (arith, occurrences-other m ms n differs, occurrences-merged_once (map (without_head m) lists) ms n merges.1)
+      | inl same ↦ subst (λ x. occurrences (m ∷ ms) x ≤ 1) same (taken_once lists m ms merges.0 merges.1)
+      | inr differs ↦ omega (arith, occurrences-other m ms n differs, occurrences-merged_once (map (without_head m) lists) ms n merges.1)
     ]
 
 -- a list of those that are merged is a list of those that are left, without its head where that is taken
@@ -66,16 +66,16 @@ Contains-map : (f : List ℕ → List ℕ) (lists : List (List ℕ)) (list : Lis
 Contains-map f [] list there = absurd (Contains-none list there)
 Contains-map f (l ∷ lists) list there =
     elim (Contains-cases list l lists there) [
-      inl same ↦ subst (λ x. Contains (f x ∷ map f lists) (f list)) (sym same) (Contains-here (f list) (map f lists))
-    | inr behind ↦ Contains-there (f list) (f l) (map f lists) (Contains-map f lists list behind)
+      | inl same ↦ subst (λ x. Contains (f x ∷ map f lists) (f list)) (sym same) (Contains-here (f list) (map f lists))
+      | inr behind ↦ Contains-there (f list) (f l) (map f lists) (Contains-map f lists list behind)
     ]
 
 used_up-nil : (lists : List (List ℕ)) (list : List ℕ) → heads lists ≡ [] → Contains lists list → list ≡ []
 used_up-nil [] list used_up there = absurd (Contains-none list there)
 used_up-nil ([] ∷ lists) list used_up there =
     elim (Contains-cases list [] lists there) [
-      inl same ↦ sym same
-    | inr behind ↦ used_up-nil lists list (sym (heads-cons_nil lists) ∙ used_up) behind
+      | inl same ↦ sym same
+      | inr behind ↦ used_up-nil lists list (sym (heads-cons_nil lists) ∙ used_up) behind
     ]
 used_up-nil ((m ∷ ms) ∷ lists) list used_up there =
     let e : m ∷ heads lists ≡ [] = sym (heads-cons_cons m ms lists) ∙ used_up in absurd (cc)
@@ -84,8 +84,8 @@ IsSubsequence-put_back : (n : ℕ) (list ns : List ℕ) → IsSubsequence (witho
 IsSubsequence-put_back n [] ns within = nothing
 IsSubsequence-put_back n (m ∷ ms) ns within =
     elim (m == n) as (λ b. (m == n) ≡ b → IsSubsequence (cond b ms (m ∷ ms)) ns → IsSubsequence (m ∷ ms) (n ∷ ns)) [
-      true ↦ λ is below. let same : n ≡ m = grind (arith, is) in subst (λ x. IsSubsequence (m ∷ ms) (x ∷ ns)) (sym same) (kept below)
-    | false ↦ λ is below. left_out below
+      | true ↦ λ is below. let same : n ≡ m = grind (arith, is) in subst (λ x. IsSubsequence (m ∷ ms) (x ∷ ns)) (sym same) (kept below)
+      | false ↦ λ is below. left_out below
     ]
     refl
     within

@@ -18,10 +18,10 @@ use Rattle.mro_c3.proofs.MergeLaws.{next_of-used_up}
 pub CountsTails-zeros : (size : ℕ) (in_tails : List ℕ) → in_tails ≡ replicate size 0 → CountsTails [] in_tails
 unfolding tails
 CountsTails-zeros size in_tails is = record {
-    at = λ n.
+  at = λ n.
       elim (cases_lt n size) [
-        inl below ↦ ap (λ xs. get_or xs n 0) is ∙ get_or-replicate size n 0 0 below ∙ sym (occurrences-nil n)
-      | inr past ↦ ap (λ xs. get_or xs n 0) is ∙ get_or_past (replicate size 0) n 0 (omega (arith, past, length-replicate {A = ℕ} size 0)) ∙ sym (occurrences-nil n)
+        | inl below ↦ ap (λ xs. get_or xs n 0) is ∙ get_or-replicate size n 0 0 below ∙ sym (occurrences-nil n)
+        | inr past ↦ ap (λ xs. get_or xs n 0) is ∙ get_or_past (replicate size 0) n 0 (omega (arith, past, length-replicate {A = ℕ} size 0)) ∙ sym (occurrences-nil n)
       ];
 }
 
@@ -33,24 +33,33 @@ occurrences-tails (list ∷ lists) n = omega (arith, occurrences-append (drop 1 
 occurrences-tails_more : (lists : List (List ℕ)) (i : ℕ) (list : List ℕ) (n : ℕ) → i < length lists → list ≡ get_or lists i list → occurrences (tails (take (i + 1) lists)) n ≡ occurrences (tails (take i lists)) n + occurrences (drop 1 list) n
 occurrences-tails_more lists i list n below is =
     let at : occurrences (drop 1 (get_or lists i list)) n ≡ occurrences (drop 1 list) n = ap (λ l. occurrences (drop 1 l) n) (sym is) in
-    omega
-    (arith, at, occurrences-tails (take (i + 1) lists) n, occurrences-tails (take i lists) n,
-      sum_by_more (λ l. occurrences (drop 1 l) n) lists i list below)
+    omega (
+      arith,
+      at,
+      occurrences-tails (take (i + 1) lists) n,
+      occurrences-tails (take i lists) n,
+      sum_by_more (λ l. occurrences (drop 1 l) n) lists i list below,
+    )
 
 pub CountsTails-more : (lists : List (List ℕ)) (i : ℕ) (list earlier later : List ℕ) → i < length lists → list ≡ get_or lists i list → CountsTails (take i lists) earlier → CountsMore (drop 1 list) earlier later → CountsTails (take (i + 1) lists) later
 CountsTails-more lists i list earlier later below is counted more = record { at = λ n. omega (arith, counted.at n, more.at n, occurrences-tails_more lists i list n below is) }
 
 pub IsCounted-at : (lists : List (List ℕ)) (i : ℕ) (in_tails d : List ℕ) → i < length lists → CountsTails lists in_tails → IsCounted (drop 1 (get_or lists i d)) in_tails
 IsCounted-at lists i in_tails d below counted = record {
-    at = λ n. omega (arith, counted.at n, occurrences-tails lists n, get_or-le-sum_by (λ list. occurrences (drop 1 list) n) lists i d below);
+  at = λ n. omega (arith, counted.at n, occurrences-tails lists n, get_or-le-sum_by (λ list. occurrences (drop 1 list) n) lists i d below);
 }
 
 pub CountsTails-set : (lists : List (List ℕ)) (i : ℕ) (d list earlier later : List ℕ) → i < length lists → CountsTails lists earlier → Recounts (drop 1 (get_or lists i d)) (drop 1 list) earlier later → CountsTails (set lists i list) later
 CountsTails-set lists i d list earlier later below counted recounts = record {
-    at = λ n.
-      omega
-      (arith, counted.at n, recounts.at n, occurrences-tails lists n, occurrences-tails (set lists i list) n,
-        sum_by-set (λ l. occurrences (drop 1 l) n) lists i list d below);
+  at = λ n.
+      omega (
+        arith,
+        counted.at n,
+        recounts.at n,
+        occurrences-tails lists n,
+        occurrences-tails (set lists i list) n,
+        sum_by-set (λ l. occurrences (drop 1 l) n) lists i list d below,
+      );
 }
 
 -- The next number.
@@ -136,10 +145,10 @@ heads-below bound ([] ∷ lists) n below there =
     heads-below bound lists n (All-tail (λ l. All (λ m. m < bound) l) [] lists below) (omega (arith, there, ap (λ l. occurrences l n) (heads-cons_nil lists)))
 heads-below bound ((m ∷ ms) ∷ lists) n below there =
     elim (same_or_other m n) [
-      inl same ↦ subst (λ x. x < bound) same (All-head (λ x. x < bound) m ms (All-head (λ l. All (λ x. x < bound) l) (m ∷ ms) lists below))
-    | inr differs ↦
-        heads-below bound lists n (All-tail (λ l. All (λ x. x < bound) l) (m ∷ ms) lists below)
-        (omega (arith, there, ap (λ l. occurrences l n) (heads-cons_cons m ms lists), occurrences-other m (heads lists) n differs))
+      | inl same ↦ subst (λ x. x < bound) same (All-head (λ x. x < bound) m ms (All-head (λ l. All (λ x. x < bound) l) (m ∷ ms) lists below))
+      | inr differs ↦
+          heads-below bound lists n (All-tail (λ l. All (λ x. x < bound) l) (m ∷ ms) lists below)
+          (omega (arith, there, ap (λ l. occurrences l n) (heads-cons_cons m ms lists), occurrences-other m (heads lists) n differs))
     ]
 
 pub next_of-below : (bound : ℕ) (lists : List (List ℕ)) (n : ℕ) → AllNumbersBelow bound lists → next_of lists ≡ Some n → n < bound
@@ -181,19 +190,25 @@ head_shorter m n ms same = let is : (m == n) ≡ true = grind (arith, same) in r
 heads_shorter : (n : ℕ) (lists : List (List ℕ)) → 1 ≤ occurrences (heads lists) n → sum_by length (map (without_head n) lists) < sum_by length lists
 heads_shorter n [] there = absurd (omega (arith, occurrences-nil n, ap (λ l. occurrences l n) heads-nil))
 heads_shorter n ([] ∷ lists) there =
-    omega
-    (arith, heads_shorter n lists (omega (arith, there, ap (λ l. occurrences l n) (heads-cons_nil lists))),
-      sum_by-cons length [] lists, sum_by-cons length [] (map (without_head n) lists))
+    omega (
+      arith,
+      heads_shorter n lists (omega (arith, there, ap (λ l. occurrences l n) (heads-cons_nil lists))),
+      sum_by-cons length [] lists,
+      sum_by-cons length [] (map (without_head n) lists),
+    )
 heads_shorter n ((m ∷ ms) ∷ lists) there =
     elim (same_or_other m n) [
-      inl same ↦
-        let here : length (without_head n (m ∷ ms)) < length (m ∷ ms) = head_shorter m n ms same in
-        omega (arith, here, all_shorter n lists, sum_by-cons length (m ∷ ms) lists, sum_by-cons length (without_head n (m ∷ ms)) (map (without_head n) lists))
-    | inr differs ↦
-        omega
-        (arith, left_shorter n (m ∷ ms),
-          heads_shorter n lists (omega (arith, there, ap (λ l. occurrences l n) (heads-cons_cons m ms lists), occurrences-other m (heads lists) n differs)),
-          sum_by-cons length (m ∷ ms) lists, sum_by-cons length (without_head n (m ∷ ms)) (map (without_head n) lists))
+      | inl same ↦
+          let here : length (without_head n (m ∷ ms)) < length (m ∷ ms) = head_shorter m n ms same in
+          omega (arith, here, all_shorter n lists, sum_by-cons length (m ∷ ms) lists, sum_by-cons length (without_head n (m ∷ ms)) (map (without_head n) lists))
+      | inr differs ↦
+          omega (
+            arith,
+            left_shorter n (m ∷ ms),
+            heads_shorter n lists (omega (arith, there, ap (λ l. occurrences l n) (heads-cons_cons m ms lists), occurrences-other m (heads lists) n differs)),
+            sum_by-cons length (m ∷ ms) lists,
+            sum_by-cons length (without_head n (m ∷ ms)) (map (without_head n) lists),
+          )
     ]
 
 pub next_of-shorter : (lists : List (List ℕ)) (n : ℕ) → next_of lists ≡ Some n → sum_by length (map (without_head n) lists) < sum_by length lists
@@ -204,10 +219,10 @@ next_of-shorter lists n next = heads_shorter n lists (find-Some (λ m. occurrenc
 
 pub IsMergedSoFar-none : (lists : List (List ℕ)) (before : List ℕ) → IsMergedSoFar lists before lists before
 IsMergedSoFar-none lists before = record {
-    merged = [];
-    behind = sym (append-nil before);
-    goes_on = λ rest merges. merges;
-    began = λ all merges. (all, refl, merges);
+  merged = [];
+  behind = sym (append-nil before);
+  goes_on = λ rest merges. merges;
+  began = λ all merges. (all, refl, merges);
 }
 
 step_merges : (lists : List (List ℕ)) (n : ℕ) (ns : List ℕ) → next_of lists ≡ Some n → Merges (map (without_head n) lists) ns → Merges lists (n ∷ ns)
@@ -233,10 +248,10 @@ used_up_merges lists used_up = used_up
 
 pub IsMergedSoFar-more : (lists : List (List ℕ)) (before : List ℕ) (left : List (List ℕ)) (now : List ℕ) (n : ℕ) → next_of left ≡ Some n → IsMergedSoFar lists before left now → IsMergedSoFar lists before (map (without_head n) left) (now ++ n ∷ [])
 IsMergedSoFar-more lists before left now n next so_far = record {
-    merged = so_far.merged ++ n ∷ [];
-    behind = ap (λ xs. xs ++ n ∷ []) so_far.behind ∙ append_assoc before so_far.merged (n ∷ []);
-    goes_on = λ rest merges. rw (append_assoc so_far.merged (n ∷ []) rest) (so_far.goes_on (n ∷ rest) (step_merges left n rest next merges));
-    began = λ all merges.
+  merged = so_far.merged ++ n ∷ [];
+  behind = ap (λ xs. xs ++ n ∷ []) so_far.behind ∙ append_assoc before so_far.merged (n ∷ []);
+  goes_on = λ rest merges. rw (append_assoc so_far.merged (n ∷ []) rest) (so_far.goes_on (n ∷ rest) (step_merges left n rest next merges));
+  began = λ all merges.
       let before_now : (rest : List ℕ) × (all ≡ so_far.merged ++ rest) × Merges left rest = so_far.began all merges in
       let step : (rest : List ℕ) × (before_now.0 ≡ n ∷ rest) × Merges (map (without_head n) left) rest = first_step left n before_now.0 next before_now.2 in
       (step.0, before_now.1 ∙ ap (λ xs. so_far.merged ++ xs) step.1 ∙ sym (append_assoc so_far.merged (n ∷ []) step.0), step.2);
@@ -244,9 +259,9 @@ IsMergedSoFar-more lists before left now n next so_far = record {
 
 pub IsMergedBehind-used_up : (lists : List (List ℕ)) (before : List ℕ) (left : List (List ℕ)) (now : List ℕ) → heads left ≡ [] → IsMergedSoFar lists before left now → IsMergedBehind lists before now
 IsMergedBehind-used_up lists before left now used_up so_far = record {
-    merged = so_far.merged;
-    behind = so_far.behind;
-    merges = subst (λ xs. Merges lists xs) (append-nil so_far.merged) (so_far.goes_on [] (used_up_merges left used_up));
+  merged = so_far.merged;
+  behind = so_far.behind;
+  merges = subst (λ xs. Merges lists xs) (append-nil so_far.merged) (so_far.goes_on [] (used_up_merges left used_up));
 }
 
 pub no_merge : (lists : List (List ℕ)) (before : List ℕ) (left : List (List ℕ)) (now : List ℕ) → next_of left ≡ None → (heads left ≡ [] → ⊥) → IsMergedSoFar lists before left now → (merged : List ℕ) → Merges lists merged → ⊥
@@ -262,7 +277,7 @@ tails_in_lists ((m ∷ ms) ∷ lists) n =
 
 pub CountsTails-used_up : (lists : List (List ℕ)) (in_tails : List ℕ) → heads lists ≡ [] → CountsTails lists in_tails → CountsTails [] in_tails
 CountsTails-used_up lists in_tails used_up counted = record {
-    at = λ n. omega (arith, counted.at n, tails_in_lists lists n, occurrences-used_up lists n used_up, occurrences-tails [] n);
+  at = λ n. omega (arith, counted.at n, tails_in_lists lists n, occurrences-used_up lists n used_up, occurrences-tails [] n);
 }
 
 pub merged_step : (lists : List (List ℕ)) (before : List ℕ) (left : List (List ℕ)) (now : List ℕ) (n : ℕ) (left_after : List (List ℕ)) (after : List ℕ) → next_of left ≡ Some n → left_after ≡ map (without_head n) left → after ≡ now ++ n ∷ [] → IsMergedSoFar lists before left now → IsMergedSoFar lists before left_after after
@@ -284,4 +299,4 @@ set_taken f (x ∷ xs) (suc i) d below = ap (λ ls. f x ∷ ls) (set_taken f xs 
 pub taken_set : (f : List ℕ → List ℕ) (initial : List (List ℕ)) (i : ℕ) (now : List (List ℕ)) (d list : List ℕ) → i < length initial → now ≡ map f (take i initial) ++ drop i initial → list ≡ f (get_or now i d) → set now i list ≡ map f (take (i + 1) initial) ++ drop (i + 1) initial
 taken_set f initial i now d list below is taken = rw add-one
     (ap (λ l. set now i l) taken
-      ∙ subst (λ ls. set ls i (f (get_or ls i d)) ≡ map f (take (suc i) initial) ++ drop (suc i) initial) (sym is) (set_taken f initial i d below))
+    ∙ subst (λ ls. set ls i (f (get_or ls i d)) ≡ map f (take (suc i) initial) ++ drop (suc i) initial) (sym is) (set_taken f initial i d below))

@@ -26,8 +26,8 @@ occurrences-other m ms n differs = grind (arith, occurrences-cons m ms n)
 pub same_or_other : (m n : ℕ) → (m ≡ n) ⊎ (m ≢ n)
 same_or_other m n =
     elim (m == n) as (λ b. (m == n) ≡ b → (m ≡ n) ⊎ (m ≢ n)) [
-      true ↦ λ e. inl (grind (arith, e))
-    | false ↦ λ e. inr (λ same. grind (arith, e, same))
+      | true ↦ λ e. inl (grind (arith, e))
+      | false ↦ λ e. inr (λ same. grind (arith, e, same))
     ]
     refl
 
@@ -52,16 +52,16 @@ pub Contains-from_occurrences : (xs : List ℕ) (n : ℕ) → 1 ≤ occurrences 
 Contains-from_occurrences [] n there = absurd (omega (arith, occurrences-nil n))
 Contains-from_occurrences (x ∷ xs) n there =
     elim (same_or_other x n) [
-      inl same ↦ subst (λ m. Contains (m ∷ xs) n) (sym same) (Contains-here n xs)
-    | inr differs ↦ Contains-there n x xs (Contains-from_occurrences xs n (omega (arith, occurrences-other x xs n differs)))
+      | inl same ↦ subst (λ m. Contains (m ∷ xs) n) (sym same) (Contains-here n xs)
+      | inr differs ↦ Contains-there n x xs (Contains-from_occurrences xs n (omega (arith, occurrences-other x xs n differs)))
     ]
 
 pub occurrences-from_Contains : (xs : List ℕ) (n : ℕ) → Contains xs n → 1 ≤ occurrences xs n
 occurrences-from_Contains [] n there = absurd (Contains-none n there)
 occurrences-from_Contains (x ∷ xs) n there =
     elim (Contains-cases n x xs there) [
-      inl same ↦ grind (arith, occurrences-cons x xs n, same)
-    | inr behind ↦ omega (arith, occurrences-cons x xs n, occurrences-from_Contains xs n behind)
+      | inl same ↦ grind (arith, occurrences-cons x xs n, same)
+      | inr behind ↦ omega (arith, occurrences-cons x xs n, occurrences-from_Contains xs n behind)
     ]
 
 -- each list's numbers are among those of all
@@ -69,8 +69,8 @@ pub occurrences-concat : (lists : List (List ℕ)) (list : List ℕ) (n : ℕ) �
 occurrences-concat [] list n there = absurd (Contains-none list there)
 occurrences-concat (l ∷ lists) list n there =
     elim (Contains-cases list l lists there) [
-      inl same ↦ let e : occurrences l n ≡ occurrences list n = ap (λ m. occurrences m n) same in omega (arith, e, occurrences-append l (concat lists) n)
-    | inr behind ↦ omega (arith, occurrences-append l (concat lists) n, occurrences-concat lists list n behind)
+      | inl same ↦ let e : occurrences l n ≡ occurrences list n = ap (λ m. occurrences m n) same in omega (arith, e, occurrences-append l (concat lists) n)
+      | inr behind ↦ omega (arith, occurrences-append l (concat lists) n, occurrences-concat lists list n behind)
     ]
 
 pub tails-cons : (list : List ℕ) (lists : List (List ℕ)) → tails (list ∷ lists) ≡ drop 1 list ++ tails lists
@@ -122,8 +122,8 @@ pub find-Some : (p : ℕ → Bool) (xs : List ℕ) (n : ℕ) → find p xs ≡ S
 find-Some p [] n found = let h : ◌≡◌ {A = Option ℕ} None (Some n) = found in absurd (cc)
 find-Some p (x ∷ xs) n found =
     elim (p x) as (λ b. p x ≡ b → cond b (Some x) (find p xs) ≡ Some n → (p n ≡ true) × (1 ≤ occurrences (x ∷ xs) n)) [
-      true ↦ λ passes is. let same : x ≡ n = cc in (subst (λ m. p m ≡ true) same passes, grind (arith, occurrences-cons x xs n, same))
-    | false ↦ λ fails is. let behind = find-Some p xs n is in (behind.0, omega (arith, behind.1, occurrences-cons x xs n))
+      | true ↦ λ passes is. let same : x ≡ n = cc in (subst (λ m. p m ≡ true) same passes, grind (arith, occurrences-cons x xs n, same))
+      | false ↦ λ fails is. let behind = find-Some p xs n is in (behind.0, omega (arith, behind.1, occurrences-cons x xs n))
     ]
     refl
     found

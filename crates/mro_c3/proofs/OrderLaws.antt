@@ -26,8 +26,8 @@ Contains-order : (order_of : ℕ → List ℕ) (row : List ℕ) (base : ℕ) →
 Contains-order f [] base there = absurd (Contains-none base there)
 Contains-order f (b ∷ row) base there =
     elim (Contains-cases base b row there) [
-      inl same ↦ subst (λ x. Contains (f x ∷ map f row) (f base)) (sym same) (Contains-here (f base) (map f row))
-    | inr behind ↦ Contains-there (f base) (f b) (map f row) (Contains-order f row base behind)
+      | inl same ↦ subst (λ x. Contains (f x ∷ map f row) (f base)) (sym same) (Contains-here (f base) (map f row))
+      | inr behind ↦ Contains-there (f base) (f b) (map f row) (Contains-order f row base behind)
     ]
 
 order_is_merged : (order_of : ℕ → List ℕ) (row : List ℕ) (base : ℕ) → Contains row base → Contains (merged_lists row order_of) (order_of base)
@@ -41,11 +41,11 @@ in_some_order : (f : ℕ → List ℕ) (row : List ℕ) (n : ℕ) → 1 ≤ occu
 in_some_order f [] n there = absurd (omega (arith, occurrences-nil n, there))
 in_some_order f (b ∷ row) n there =
     elim (same_or_other (occurrences (f b) n) 0) [
-      inl none ↦
-        let more : (base : ℕ) × Contains row base × (1 ≤ occurrences (f base) n) =
+      | inl none ↦
+          let more : (base : ℕ) × Contains row base × (1 ≤ occurrences (f base) n) =
           in_some_order f row n (omega (arith, none, there, occurrences-append (f b) (concat (map f row)) n)) in
-        (more.0, Contains-there more.0 b row more.1, more.2)
-    | inr some ↦ (b, Contains-here b row, omega (arith, some))
+          (more.0, Contains-there more.0 b row more.1, more.2)
+      | inr some ↦ (b, Contains-here b row, omega (arith, some))
     ]
 
 concat_merged : (f : ℕ → List ℕ) (row : List ℕ) (n : ℕ) → occurrences (concat (merged_lists row f)) n ≡ occurrences (concat (map f row)) n + occurrences row n
@@ -70,8 +70,8 @@ IsSubsequence-reached rows {order = order} {higher} itself is is_higher = subst 
 IsSubsequence-reached rows {higher = higher} (by_base {base = base} there further) (linearized {k} {merged} f orders merges) is_higher =
     left_out
     (IsSubsequence-through
-      (IsSubsequence-reached rows further (orders base there) is_higher)
-      (IsSubsequence-merged (merged_lists (bases rows k) f) merged (f base) merges (order_is_merged f (bases rows k) base there)))
+    (IsSubsequence-reached rows further (orders base there) is_higher)
+    (IsSubsequence-merged (merged_lists (bases rows k) f) merged (f base) merges (order_is_merged f (bases rows k) base there)))
 
 -- the class stands before its bases, and these in the order of its row
 pub IsSubsequence-row : (rows : List (List ℕ)) {k : ℕ} {order : List ℕ} → IsOrder rows k order → IsSubsequence (k ∷ bases rows k) order
@@ -82,46 +82,47 @@ IsSubsequence-row rows (linearized {k} {merged} f orders merges) =
 pub occurrences-reached : (rows : List (List ℕ)) {k above : ℕ} {order : List ℕ} → Reaches rows k above → IsOrder rows k order → 1 ≤ occurrences order above
 occurrences-reached rows itself (linearized {k} {merged} f orders merges) = omega (arith, occurrences-same k merged)
 occurrences-reached rows (by_base {base = base} {above = above} there further) (linearized {k} {merged} f orders merges) =
-    omega
-    (arith,
+    omega (
+      arith,
       occurrences-cons k merged above,
       occurrences-merged_from (merged_lists (bases rows k) f) merged above merges
-        (omega (arith, occurrences-reached rows further (orders base there), occurrences-concat (merged_lists (bases rows k) f) (f base) above (order_is_merged f (bases rows k) base there))))
+          (omega (arith, occurrences-reached rows further (orders base there), occurrences-concat (merged_lists (bases rows k) f) (f base) above (order_is_merged f (bases rows k) base there))),
+    )
 
 -- what stands behind the class is a base, or stands in a base's order
 in_merged : (rows : List (List ℕ)) (f : ℕ → List ℕ) (row merged : List ℕ) (n : ℕ) → Merges (merged_lists row f) merged → 1 ≤ occurrences merged n → ((base : ℕ) → Contains row base → 1 ≤ occurrences (f base) n → Reaches rows base n) → (base : ℕ) × Contains row base × Reaches rows base n
 in_merged rows f row merged n merges there reaches =
     let in_lists : 1 ≤ occurrences (concat (merged_lists row f)) n = occurrences-merged_to (merged_lists row f) merged n merges there in
     elim (same_or_other (occurrences row n) 0) [
-      inl none ↦
-        let among : (base : ℕ) × Contains row base × (1 ≤ occurrences (f base) n) = in_some_order f row n (omega (arith, none, in_lists, concat_merged f row n)) in
-        (among.0, among.1, reaches among.0 among.1 among.2)
-    | inr some ↦ (n, Contains-from_occurrences row n (omega (arith, some)), itself)
+      | inl none ↦
+          let among : (base : ℕ) × Contains row base × (1 ≤ occurrences (f base) n) = in_some_order f row n (omega (arith, none, in_lists, concat_merged f row n)) in
+          (among.0, among.1, reaches among.0 among.1 among.2)
+      | inr some ↦ (n, Contains-from_occurrences row n (omega (arith, some)), itself)
     ]
 
 -- and no other does
 pub Reaches-member : (rows : List (List ℕ)) {k : ℕ} {order : List ℕ} (n : ℕ) → IsOrder rows k order → 1 ≤ occurrences order n → Reaches rows k n
 Reaches-member rows n (linearized {k} {merged} f orders merges) there =
     elim (same_or_other k n) [
-      inl same ↦ subst (λ x. Reaches rows k x) same itself
-    | inr differs ↦
-        let base = in_merged rows f (bases rows k) merged n merges (omega (arith, there, occurrences-other k merged n differs)) (λ b among within. Reaches-member rows n (orders b among) within) in
-        by_base base.1 base.2
+      | inl same ↦ subst (λ x. Reaches rows k x) same itself
+      | inr differs ↦
+          let base = in_merged rows f (bases rows k) merged n merges (omega (arith, there, occurrences-other k merged n differs)) (λ b among within. Reaches-member rows n (orders b among) within) in
+          by_base base.1 base.2
     ]
 
 known_or_empty : (rows : List (List ℕ)) (k : ℕ) → (k < length rows) ⊎ (bases rows k ≡ [])
 known_or_empty rows k =
     elim (cases_lt k (length rows)) [
-      inl less ↦ inl less
-    | inr not_less ↦ inr (get_or_past rows k [] not_less)
+      | inl less ↦ inl less
+      | inr not_less ↦ inr (get_or_past rows k [] not_less)
     ]
 
 -- a class has a larger number than its bases, and so none reaches a larger number
 pub below_row : (rows : List (List ℕ)) → BasesAreBelow rows → (k base : ℕ) → Contains (bases rows k) base → base < k
 below_row rows below k base there =
     elim (known_or_empty rows k) [
-      inl known ↦ All-contains (λ b. b < k) (bases rows k) base (below k known) there
-    | inr empty ↦ absurd (Contains-none base (subst (λ row. Contains row base) empty there))
+      | inl known ↦ All-contains (λ b. b < k) (bases rows k) base (below k known) there
+      | inr empty ↦ absurd (Contains-none base (subst (λ row. Contains row base) empty there))
     ]
 
 pub Reaches-below : (rows : List (List ℕ)) → BasesAreBelow rows → {k above : ℕ} → Reaches rows k above → above ≤ k
@@ -132,25 +133,25 @@ Reaches-below rows below (by_base {k} {base} there further) = omega (arith, belo
 pub occurrences-once : (rows : List (List ℕ)) → BasesAreBelow rows → {k : ℕ} {order : List ℕ} (n : ℕ) → IsOrder rows k order → occurrences order n ≤ 1
 occurrences-once rows below n (linearized {k} {merged} f orders merges) =
     elim (same_or_other k n) [
-      inl same ↦
-        elim (same_or_other (occurrences merged n) 0) [
-          inl none ↦ grind (arith, occurrences-cons k merged n, none)
-        | inr some ↦
-            let base = in_merged rows f (bases rows k) merged n merges (omega (arith, some)) (λ b among within. Reaches-member rows n (orders b among) within) in
-            absurd (omega (arith, same, below_row rows below k base.0 base.1, Reaches-below rows below base.2))
-        ]
-    | inr differs ↦ omega (arith, occurrences-other k merged n differs, occurrences-merged_once (merged_lists (bases rows k) f) merged n merges)
+      | inl same ↦
+          elim (same_or_other (occurrences merged n) 0) [
+            | inl none ↦ grind (arith, occurrences-cons k merged n, none)
+            | inr some ↦
+                let base = in_merged rows f (bases rows k) merged n merges (omega (arith, some)) (λ b among within. Reaches-member rows n (orders b among) within) in
+                absurd (omega (arith, same, below_row rows below k base.0 base.1, Reaches-below rows below base.2))
+          ]
+      | inr differs ↦ omega (arith, occurrences-other k merged n differs, occurrences-merged_once (merged_lists (bases rows k) f) merged n merges)
     ]
 
 -- the order of a class follows the laws
 pub IsLinear-order : (rows : List (List ℕ)) (k : ℕ) (order : List ℕ) → BasesAreBelow rows → IsOrder rows k order → IsLinear rows k order
 IsLinear-order rows k order below is = record {
-    only = λ other is_other. IsOrder-unique rows is_other is;
-    members = λ n. (λ there. Reaches-member rows n is (occurrences-from_Contains order n there), λ reached. Contains-from_occurrences order n (occurrences-reached rows reached is));
-    once = λ n. occurrences-once rows below n is;
-    precedence = λ n there.
+  only = λ other is_other. IsOrder-unique rows is_other is;
+  members = λ n. (λ there. Reaches-member rows n is (occurrences-from_Contains order n there), λ reached. Contains-from_occurrences order n (occurrences-reached rows reached is));
+  once = λ n. occurrences-once rows below n is;
+  precedence = λ n there.
       let reached : Reaches rows k n = Reaches-member rows n is (occurrences-from_Contains order n there) in
       let higher = IsOrder-reached rows reached is in
       IsSubsequence-through (IsSubsequence-row rows higher.1) (IsSubsequence-reached rows reached is higher.1);
-    monotone = λ n above there is_above. IsSubsequence-reached rows (Reaches-member rows n is (occurrences-from_Contains order n there)) is is_above;
+  monotone = λ n above there is_above. IsSubsequence-reached rows (Reaches-member rows n is (occurrences-from_Contains order n there)) is is_above;
 }

@@ -1,5 +1,5 @@
 // Tables of how often each number was counted.
-ghost use Rattle.std.specs.Prelude.{◌≡◌, ◌<◌, ◌≤◌, [], ◌∷◌, All, OnOk, drop, length, slice_index};
+ghost use Rattle.std.specs.Prelude.{◌≡◌, ◌<◌, ◌≤◌, ◌↔◌, [], ◌∷◌, All, IsTrue, OnOk, drop, length, slice_index};
 ghost use Rattle.mro_c3.specs.Table.{CountsMore, IsCounted, Recounts};
 
 use lint_values::Memory;
@@ -28,12 +28,12 @@ fn count(counts: &mut [usize], number: usize) -> Result<(), Memory>
     }
 }
 
-/// How often a number was counted.
-pub(crate) fn count_of(counts: &[usize], number: usize) -> usize
+/// Whether a number was not counted.
+pub(crate) fn is_uncounted(counts: &[usize], number: usize) -> bool
     requires { number < length counts.now }
-    ensures { result ≡ slice_index counts.now number }
+    ensures { IsTrue result ↔ (slice_index counts.now number ≡ 0) }
 {
-    counts[number]
+    counts[number] == 0
 }
 
 /// Takes the head of a list from the counts.

@@ -9,4 +9,7 @@ mod remaining;
 mod row;
 
 pub use linearization::linearize;
-pub use row::{Order, Row};
+pub use row::{Order, Row, bases_are_below};
+
+#[cfg(test)]
+mod tests;

@@ -26,7 +26,13 @@ pub fn linearize(alloc: Global, rows: &[Row], k: usize) -> Result<Option<Order>,
 }
 
 /// The order of a class, whose ancestors are marked, from the orders of its ancestors.
-fn order_from(alloc: Global, rows: &[Row], k: usize, marks: &[bool], in_tails: &mut [usize]) -> Result<Option<Order>, Memory>
+fn order_from(
+    alloc: Global,
+    rows: &[Row],
+    k: usize,
+    marks: &[bool],
+    in_tails: &mut [usize],
+) -> Result<Option<Order>, Memory>
     requires below { BasesAreBelow rows.now }
     requires known { k < length rows.now }
     requires marked { MarksReached rows.now k marks.now }
@@ -49,7 +55,13 @@ fn order_from(alloc: Global, rows: &[Row], k: usize, marks: &[bool], in_tails: &
 }
 
 /// The order of a class whose bases' orders are made.
-fn order_of(alloc: Global, rows: &[Row], class: usize, orders: &[Order], in_tails: &mut [usize]) -> Result<Option<Order>, Memory>
+fn order_of(
+    alloc: Global,
+    rows: &[Row],
+    class: usize,
+    orders: &[Order],
+    in_tails: &mut [usize],
+) -> Result<Option<Order>, Memory>
     requires below { BasesAreBelow rows.now }
     requires known { class < length rows.now }
     requires size { length orders.now ≡ class }
@@ -72,7 +84,11 @@ fn order_of(alloc: Global, rows: &[Row], class: usize, orders: &[Order], in_tail
 }
 
 /// The orders of the bases, and the list of the bases.
-fn lists_of<'a>(alloc: Global, row: &'a [usize], orders: &'a [Order]) -> Result<Vec<Remaining<'a>>, Memory>
+fn lists_of<'a>(
+    alloc: Global,
+    row: &'a [usize],
+    orders: &'a [Order],
+) -> Result<Vec<Remaining<'a>>, Memory>
     requires { All (λ base. base < length orders.now) row.now }
     ensures { IfOk result (λ lists. lists.items ≡ merged_lists row.now (order_at orders.now)) }
 {

@@ -3,7 +3,7 @@ ghost use Rattle.std.specs.Prelude.{◌≡◌, ◌<◌, ◌↔◌, ℕ, List, []
 ghost use Rattle.mro_c3.specs.Merge.{heads, next_of, without_head, Merges};
 ghost use Rattle.mro_c3.specs.Table.{AllNumbersBelow, CountsTails, IsMergedBehind};
 
-use crate::counts::count_of;
+use crate::counts::is_uncounted;
 use crate::remaining::Remaining;
 use lint_values::Memory;
 
@@ -20,7 +20,11 @@ pub(crate) fn count_tails(lists: &[Remaining], in_tails: &mut [usize]) -> Result
 }
 
 /// Puts the merge of the lists behind the numbers that are given, or answers None where there is no merge.
-pub(crate) fn merge(lists: &mut [Remaining], in_tails: &mut [usize], mut numbers: Vec<usize>) -> Result<Option<Vec<usize>>, Memory>
+pub(crate) fn merge(
+    lists: &mut [Remaining],
+    in_tails: &mut [usize],
+    mut numbers: Vec<usize>,
+) -> Result<Option<Vec<usize>>, Memory>
     requires below { AllNumbersBelow (length in_tails.old) lists.old }
     requires counted { CountsTails lists.old in_tails.old }
     ensures merged { IfOk result (λ answer. IfSome answer (λ all. IsMergedBehind lists.old numbers.items all.items)) }
@@ -31,7 +35,11 @@ pub(crate) fn merge(lists: &mut [Remaining], in_tails: &mut [usize], mut numbers
         take_each(lists, number, in_tails);
         numbers.push(number)?;
     }
-    if is_used_up(lists) { Ok(Some(numbers)) } else { Ok(None) }
+    if is_used_up(lists) {
+        Ok(Some(numbers))
+    } else {
+        Ok(None)
+    }
 }
 
 /// The first head that stands in no tail.
@@ -42,7 +50,7 @@ fn next(lists: &[Remaining], in_tails: &[usize]) -> Option<usize>
 {
     for list in lists {
         if let Some(number) = list.head() {
-            if count_of(in_tails, number) == 0 {
+            if is_uncounted(in_tails, number) {
                 return Some(number);
             }
         }

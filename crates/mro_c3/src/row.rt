@@ -1,5 +1,6 @@
 // Rows of bases, and orders.
-ghost use Rattle.std.specs.Prelude.{◌≡◌};
+ghost use Rattle.std.specs.Prelude.{◌≡◌, ◌<◌, ◌↔◌, All, IsTrue};
+ghost use Rattle.mro_c3.specs.Order.{BasesAreBelow};
 
 use std::alloc::Global;
 use std::marker::Model;
@@ -31,6 +32,25 @@ impl Row {
     {
         self.bases.as_slice()
     }
+}
+
+/// Whether each class has a larger number than its bases, as where classes are numbered in the order of their
+/// definitions.
+pub fn bases_are_below(rows: &[Row]) -> bool
+    ensures { IsTrue result ↔ BasesAreBelow rows.now }
+{
+    for (class, row) in rows.iter().enumerate() {
+        if !are_below(row.as_slice(), class) {
+            return false;
+        }
+    }
+    true
+}
+
+fn are_below(bases: &[usize], class: usize) -> bool
+    ensures { IsTrue result ↔ All (λ base. base < class) bases.now }
+{
+    bases.iter().all(|base| *base < class)
 }
 
 /// The order of a class: its own number first, then those of its ancestors. Contracts see it as a list.

@@ -4,7 +4,7 @@ use Rattle.mro_c3.proofs.linearization.order_from.Given as goal
 
 abbrev pub invariant-loop-class : goal.invariant-loop-class
 invariant-loop-class l = record {
-    size : length l.orders.items ≡ l.class;
-    made : HasOrders l.rows l.marks l.orders.items;
-    empty : CountsTails [] l.in_tails;
+  size : length l.orders.items ≡ l.class;
+  made : HasOrders l.rows l.marks l.orders.items;
+  empty : CountsTails [] l.in_tails;
 }

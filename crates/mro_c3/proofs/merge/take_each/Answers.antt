@@ -8,8 +8,8 @@ take-requires c = IsCounted-at c.loop-list.lists c.loop-list.list-index c.loop-l
 
 pub loop-list-preserved : goal.loop-list-preserved
 loop-list-preserved c = record {
-    taken = taken_set (without_head c.args.number) c.args.lists.now c.loop-list.list-index c.loop-list.lists c.list-item.result c.take.new.self c.loop-list-test.true c.loop-list.invariant.taken c.take.ensures.list;
-    counted =
+  taken = taken_set (without_head c.args.number) c.args.lists.now c.loop-list.list-index c.loop-list.lists c.list-item.result c.take.new.self c.loop-list-test.true c.loop-list.invariant.taken c.take.ensures.list;
+  counted =
       CountsTails-set c.loop-list.lists c.loop-list.list-index c.list-item.result c.take.new.self c.loop-list.in_tails c.take.new.in_tails (omega arith)
       c.loop-list.invariant.counted c.take.ensures.counts;
 }

@@ -15,7 +15,7 @@ mark-requires c =
 pub loop-class-preserved-then-marks-class : goal.loop-class-preserved-then-marks-class
 loop-class-preserved-then-marks-class c =
     let row : c.as_slice.result.now ≡ bases c.args.rows.now (c.loop-class.class - 1) =
-      c.as_slice.ensures ∙ row_is c.args.rows.now (c.loop-class.class - 1) c.index-rows-class.result (omega arith) c.index-rows-class.is in
+    c.as_slice.ensures ∙ row_is c.args.rows.now (c.loop-class.class - 1) c.index-rows-class.result (omega arith) c.index-rows-class.is in
     let next : c.loop-class.class ≡ c.loop-class.class - 1 + 1 = omega arith in
     MarksFrom-marked c.args.rows.now c.requires.below c.args.k (c.loop-class.class - 1) c.loop-class.marks c.mark.new.marks c.mark.auto.marks c.if-marks-class.true
     (subst (λ classes. Marks classes c.loop-class.marks c.mark.new.marks) row c.mark.ensures)
