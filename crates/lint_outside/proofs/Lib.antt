@@ -1,0 +1,3 @@
+pub mod MapOf
+pub mod NameIn
+pub mod TreeOf

@@ -1,4 +1,13 @@
 pub mod Causes
+pub mod Counts
+pub mod FailingFiles
+pub mod FailingSink
 pub mod FileTree
+pub mod FirstPart
 pub mod Held
+pub mod MemFiles
+pub mod MemSink
+pub mod Placed
+pub mod RealFiles
+pub mod RealSink
 pub mod Sinks

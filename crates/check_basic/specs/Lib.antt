@@ -1,0 +1,2 @@
+pub mod LineRules
+pub mod Lines

@@ -1,0 +1,31 @@
+-- The union of the messages' bits is below 32, the status of words that are refused.
+use Rattle.std.proofs.Common.{◌≡◌, ◌<◌, ◌↔◌, ◌^◌, ℕ, Bool, true, false, cond, List, [], ◌∷◌, subst, refl, sym, ◌∙◌, arith, bit_or}
+use Rattle.std.specs.List.{fold}
+use Rattle.std.specs.Prelude.{Ok, IsErr}
+use Rattle.std.proofs.lemmas.Nat.{or_lt}
+use Rattle.lint_messages.specs.Codes.{bit, bit_of, category}
+use Rattle.lint_messages.specs.declared.message.Message.{Message}
+use Rattle.options.specs.declared.line.Line.{Line}
+use Rattle.options.specs.Words.{line_of}
+use Rattle.lint_report.specs.Report.{bits}
+use Rattle.lint_engine.specs.Command.{IsRefused}
+
+either_small : (b : Bool) (x y : ℕ) → x < 2 ^ 5 → y < 2 ^ 5 → cond b x y < 2 ^ 5
+either_small true x y p q = p
+either_small false x y p q = q
+
+bit_small : (letter : ℕ) → bit_of letter < 2 ^ 5
+bit_small letter =
+    either_small _ 1 _ (omega arith) (either_small _ 2 _ (omega arith) (either_small _ 4 _ (omega arith) (either_small _ 8 16 (omega arith) (omega arith))))
+
+bits_from : (messages : List Message) (all : ℕ) → all < 2 ^ 5 → fold (λ all m. bit_or all (bit m.code)) all messages < 2 ^ 5
+bits_from [] all small = small
+bits_from (m ∷ messages) all small = bits_from messages (bit_or all (bit m.code)) (or_lt 5 all (bit m.code) small (bit_small (category m.code)))
+
+pub bits_small : (messages : List Message) → bits messages < 2 ^ 5
+bits_small messages = bits_from messages 0 (omega arith)
+
+-- words that are read never have the status 32
+pub accepted : (words : List (List ℕ)) (line : Line) (messages : List Message) (status : ℕ) → line_of words ≡ Ok line → status ≡ bits messages → IsRefused words status
+accepted words line messages status read is =
+    (λ e. absurd (omega (arith, bits_small messages)), λ bad. let never : false ≡ true = subst IsErr read bad in cc)

@@ -1,0 +1,50 @@
+-- What a command promises, by its answer.
+use Rattle.std.specs.Prelude.{◌≡◌, ℕ, ◌↔◌, List, [], Option, Result, Ok, Err, IsErr, count_by}
+use Rattle.lint_outside.specs.Causes.{RoseBy}
+use Rattle.lint_outside.specs.Sinks.{Appends, AppendsPrefix}
+use Rattle.lint_outside.specs.FileTree.{FileTree}
+use Rattle.lint_outside.specs.declared.outside.Question.{Question}
+use Rattle.options.specs.declared.line.Line.{Line}
+use Rattle.options.specs.declared.usage.UsageFault.{UsageFault}
+use Rattle.options.specs.Words.{line_of}
+use Rattle.file_list.specs.Entries.{is_failed}
+use Rattle.file_list.specs.Gathered.{IsReadingOf}
+use Rattle.lint_report.specs.declared.outcome.OptionsRead.TheVariants.{NotLooked}
+use Rattle.lint_report.specs.declared.outcome.OptionsRead.{OptionsRead}
+use Rattle.lint_report.specs.declared.outcome.Whole.{Whole}
+use Rattle.lint_engine.specs.Output.{output_of, error_text_of, status_of}
+
+-- The command ran: the sinks grew by the stated texts of the words and of what was read, where they tell, and the
+-- status is the stated one.
+pub record IsRun (words : List (List ℕ)) (read : Whole) (out_before out_now err_before err_now : Option (List ℕ)) (status : ℕ) : Type 0 where
+  pub printed : Appends out_before out_now (output_of words read)
+  pub reported : Appends err_before err_now (error_text_of words read)
+  pub status_is : status ≡ status_of words read
+
+-- the status is 32 exactly where the words are refused
+abbrev pub IsRefused : List (List ℕ) → ℕ → Type 0
+IsRefused words status = (status ≡ 32) ↔ IsErr (line_of words)
+
+-- A sink failed: each sink holds a first part of its stated text, where it tells.
+pub record IsStopped (words : List (List ℕ)) (read : Whole) (out_before out_now err_before err_now : Option (List ℕ)) : Type 0 where
+  pub printed : AppendsPrefix out_before out_now (output_of words read)
+  pub reported : AppendsPrefix err_before err_now (error_text_of words read)
+
+-- Memory ran out: nothing was written.
+pub record IsUnwritten (out_before out_now err_before err_now : Option (List ℕ)) : Type 0 where
+  pub printed : out_now ≡ out_before
+  pub reported : err_now ≡ err_before
+
+-- Nothing is read for words that are refused. Else the reading is that of what the files hold.
+abbrev pub IsListReadFrom : Result Line UsageFault → FileTree → List Question → List Question → ℕ → ℕ → Whole → Type 0
+IsListReadFrom (Err fault) tree before now count_before count_now read = (read.list ≡ []) × (now ≡ before)
+IsListReadFrom (Ok line) tree before now count_before count_now read = IsReadingOf tree before now count_before count_now line.files read.list
+
+-- What was read, where the files tell what they hold: no options file is looked at yet.
+pub record IsReadFrom (line : Result Line UsageFault) (tree : FileTree) (before now : List Question) (count_before count_now : ℕ) (read : Whole) : Type 0 where
+  pub list : IsListReadFrom line tree before now count_before count_now read
+
+-- Entries have failed at most as often as the count of the files rose, and no options file is looked at yet.
+pub record HasReadCauses (count_before count_now : ℕ) (read : Whole) : Type 0 where
+  pub failed : RoseBy (count_by is_failed read.list) count_before count_now
+  pub options : read.options ≡ NotLooked

@@ -1,0 +1,17 @@
+//! Lints a list of files and reports: the one public call of the program.
+#![tactic(auto)]
+
+mod command;
+mod entries;
+mod list;
+mod source;
+mod writing;
+
+pub use check_basic;
+pub use command::lint_command;
+pub use lint_report;
+pub use lint_report::{Answer, OptionsRead, Outcome, Whole};
+pub use list::lint_list;
+
+#[cfg(test)]
+mod tests;

@@ -1,0 +1,35 @@
+// The messages of a whole reading.
+ghost use Rattle.std.specs.Prelude.{◌≡◌, IfOk};
+ghost use Rattle.lint_engine.specs.Findings.{shown};
+
+use crate::entries::check_entry;
+use file_list::Reading;
+use lint_base::{FileId, Gate, Memory, Messages};
+use lint_report::Findings;
+use options::Options;
+use std::alloc::Global;
+use std::thread::Threads;
+
+/// Lints the files of a reading, one after another. The gate is passed before each file.
+pub fn lint_list<R: Threads + Sync, G: Gate>(
+    _rt: &R,
+    alloc: Global,
+    reading: &Reading,
+    options: &Options,
+    gate: &G,
+) -> Result<Findings, Memory>
+    ensures messages { IfOk result (λ findings. findings.messages ≡ shown options.now.max_line_length reading.now) }
+    ensures statements { IfOk result (λ findings. findings.statements ≡ 0) }
+{
+    let mut messages = Messages::new(alloc);
+    for (i, listed) in reading.entries().iter().enumerate() {
+        let file = FileId(i as u32);
+        gate.pass(file);
+        let found = check_entry(alloc, file, listed, options)?;
+        messages.append(found)?;
+    }
+    Ok(Findings {
+        messages,
+        statements: 0,
+    })
+}

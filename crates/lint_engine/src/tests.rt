@@ -1,0 +1,221 @@
+// The worked rows of the first path, over files and sinks in memory.
+use crate::{Answer, lint_command};
+use lint_base::{Calls, FailingFiles, FailingSink, Files, MemFiles, MemSink, OpenGate, Text};
+use std::alloc::Global;
+use std::process::Abort;
+use std::test::Fail;
+use std::thread::Threads;
+
+const ROOM: u32 = 1_048_576;
+
+fn texts(alloc: Global, words: &[&str]) -> Result<Vec<Text>, Fail> {
+    let mut texts = Vec::new(alloc);
+    for word in words {
+        texts.push(Text::from_str(alloc, word)?)?;
+    }
+    Ok(texts)
+}
+
+fn held(alloc: Global, path: &str, bytes: &[u8]) -> Result<MemFiles, Fail> {
+    let mut files = MemFiles::new(alloc);
+    files.put_file(alloc, &Text::from_str(alloc, path)?, bytes)?;
+    Ok(files)
+}
+
+// What the command prints and answers over these files.
+fn runs<R: Abort + Threads + Sync, F: Files>(
+    rt: &R,
+    alloc: Global,
+    words: &[&str],
+    files: &mut F,
+    printed: &str,
+    reported: &str,
+    status: u8,
+) -> Result<(), Fail> {
+    let mut out = MemSink::new(alloc, ROOM)?;
+    let mut err = MemSink::new(alloc, ROOM)?;
+    let words = texts(alloc, words)?;
+    let outcome = lint_command(rt, alloc, &words, files, &mut out, &mut err, &OpenGate);
+    assert_eq!(rt; outcome.answer, Answer::Ran(status), "{printed}");
+    assert_eq!(rt; out.bytes(), printed.as_bytes(), "{printed}");
+    assert_eq!(rt; err.bytes(), reported.as_bytes(), "{printed}");
+    Ok(())
+}
+
+#[test]
+fn a_file_is_reported(rt: HostRuntime) -> Result<(), Fail> {
+    let alloc = rt.alloc();
+    let rows: [(&str, &[u8], &str, u8); 9] = [
+        ("a.py", b"", "", 0),
+        ("a.py", b"\"\"\"Doc.\"\"\"\nX = 1\n", "", 0),
+        ("a.py", b"\xef\xbb\xbf", "", 0),
+        (
+            "c.py",
+            b"\"\"\"Doc.\"\"\"\nX = 1  ",
+            "************* Module c\nc.py:2:0: C0304: Final newline missing (missing-final-newline)\nc.py:2:5: C0303: Trailing whitespace (trailing-whitespace)\n",
+            16,
+        ),
+        (
+            "e.py",
+            b"X = '\xc3\xa9' \t\x0b\r\nY = 1\r",
+            "************* Module e\ne.py:1:7: C0303: Trailing whitespace (trailing-whitespace)\n",
+            16,
+        ),
+        (
+            "a.py",
+            b"X=\xff\n",
+            "************* Module a\na.py:1:2: E0001: Parsing failed: 'source is not UTF-8 (line 1)' (syntax-error)\n",
+            2,
+        ),
+        (
+            "a.py",
+            b"\xef\xbb\xbfX = 1\r\xc3\xa9\xed\xa0\x80",
+            "************* Module a\na.py:2:2: E0001: Parsing failed: 'source is not UTF-8 (line 2)' (syntax-error)\n",
+            2,
+        ),
+        (
+            "__init__.py",
+            b"X = 1",
+            "************* Module __init__\n__init__.py:1:0: C0304: Final newline missing (missing-final-newline)\n",
+            16,
+        ),
+        (
+            "script",
+            b"X = 1 \n",
+            "************* Module script\nscript:1:5: C0303: Trailing whitespace (trailing-whitespace)\n",
+            16,
+        ),
+    ];
+    for (path, bytes, printed, status) in rows {
+        let mut files = held(alloc, path, bytes)?;
+        runs(&rt, alloc, &[path], &mut files, printed, "", status)?;
+    }
+    Ok(())
+}
+
+// A line of `#` and this many `x`, behind a docstring.
+fn long_line(alloc: Global, length: usize) -> Result<Vec<u8>, Fail> {
+    let mut source = Vec::from_slice(alloc, b"\"\"\"Doc.\"\"\"\n#")?;
+    for _ in 0..length {
+        source.push(b'x')?;
+    }
+    source.push(b'\n')?;
+    Ok(source)
+}
+
+#[test]
+fn a_long_line_is_reported(rt: HostRuntime) -> Result<(), Fail> {
+    let alloc = rt.alloc();
+    let mut files = held(alloc, "b.py", &long_line(alloc, 99)?)?;
+    runs(&rt, alloc, &["b.py"], &mut files, "", "", 0)?;
+    let mut files = held(alloc, "b.py", &long_line(alloc, 100)?)?;
+    let printed =
+        "************* Module b\nb.py:2:0: C0301: Line too long (101/100) (line-too-long)\n";
+    runs(&rt, alloc, &["b.py"], &mut files, printed, "", 16)
+}
+
+#[test]
+fn what_is_no_source_is_told(rt: HostRuntime) -> Result<(), Fail> {
+    let alloc = rt.alloc();
+    let mut files = MemFiles::new(alloc);
+    files.put_folder(alloc, &Text::from_str(alloc, "pkg")?)?;
+    let missing =
+        "************* Module none.py\nnone.py:1:0: F0001: No module named none.py (fatal)\n";
+    runs(&rt, alloc, &["none.py"], &mut files, missing, "", 1)?;
+    let folder = "************* Module pkg\npkg:1:0: F0001: No module named pkg (fatal)\n";
+    runs(&rt, alloc, &["pkg"], &mut files, folder, "", 1)?;
+    let large = vec![in alloc; b'\n'; 4_194_305]?;
+    let mut files = held(alloc, "l.py", &large)?;
+    let told =
+        "************* Module l\nl.py:1:0: F0010: error while code parsing: file too large (parse-error)\n";
+    runs(&rt, alloc, &["l.py"], &mut files, told, "", 1)
+}
+
+#[test]
+fn words_are_refused(rt: HostRuntime) -> Result<(), Fail> {
+    let alloc = rt.alloc();
+    let none: &[&str] = &[];
+    let rows: [(&[&str], &str); 5] = [
+        (none, "pylint: error: no file given\n"),
+        (
+            &["-E", "a.py"],
+            "pylint: error: '-E' is not supported yet\n",
+        ),
+        (
+            &["a.py", "b.py"],
+            "pylint: error: 'a.py' is not supported yet\n",
+        ),
+        (
+            &["p/a.py"],
+            "pylint: error: 'p/a.py' is not supported yet\n",
+        ),
+        (&["-"], "pylint: error: '-' is not supported yet\n"),
+    ];
+    for (words, reported) in rows {
+        let mut files = MemFiles::new(alloc);
+        runs(&rt, alloc, words, &mut files, "", reported, 32)?;
+    }
+    Ok(())
+}
+
+#[test]
+fn a_failing_call_is_told(rt: HostRuntime) -> Result<(), Fail> {
+    let alloc = rt.alloc();
+    let rows = [
+        (
+            1,
+            "************* Module c.py\nc.py:1:0: F0010: error while code parsing: read failed (parse-error)\n",
+            1,
+            1,
+        ),
+        (
+            2,
+            "************* Module c\nc.py:1:0: F0010: error while code parsing: read failed (parse-error)\n",
+            1,
+            1,
+        ),
+        (3, "", 0, 0),
+    ];
+    for (call, printed, status, failures) in rows {
+        let mut fail = Calls::new(alloc);
+        fail.add(call)?;
+        let mut files = FailingFiles::new(held(alloc, "c.py", b"X = 1\n")?, fail);
+        runs(&rt, alloc, &["c.py"], &mut files, printed, "", status)?;
+        assert_eq!(rt; files.failed().len(), failures);
+    }
+    Ok(())
+}
+
+#[test]
+fn a_failing_write_leaves_a_first_part(rt: HostRuntime) -> Result<(), Fail> {
+    let alloc = rt.alloc();
+    let rows: [(u32, u32, &str); 4] = [
+        (1, 0, ""),
+        (1, 1, "*"),
+        (2, 0, "************* Module c\n"),
+        (2, 1, "************* Module c\nc"),
+    ];
+    let words = texts(alloc, &["c.py"])?;
+    for (write, taken, printed) in rows {
+        let mut files = held(alloc, "c.py", b"X = 1 \n")?;
+        let mut out = FailingSink::new(MemSink::new(alloc, ROOM)?, write, taken);
+        let mut err = MemSink::new(alloc, ROOM)?;
+        let outcome = lint_command(
+            &rt, alloc, &words, &mut files, &mut out, &mut err, &OpenGate,
+        );
+        assert_eq!(rt; outcome.answer, Answer::SinkFault);
+        assert_eq!(rt; out.bytes(), printed.as_bytes());
+        assert_eq!(rt; err.bytes(), b"".as_slice());
+    }
+    let mut files = MemFiles::new(alloc);
+    let mut out = MemSink::new(alloc, ROOM)?;
+    let mut err = FailingSink::new(MemSink::new(alloc, ROOM)?, 1, 1);
+    let words = texts(alloc, &[])?;
+    let outcome = lint_command(
+        &rt, alloc, &words, &mut files, &mut out, &mut err, &OpenGate,
+    );
+    assert_eq!(rt; outcome.answer, Answer::SinkFault);
+    assert_eq!(rt; out.bytes(), b"".as_slice());
+    assert_eq!(rt; err.bytes(), b"p".as_slice());
+    Ok(())
+}

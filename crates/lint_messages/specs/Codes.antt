@@ -1,0 +1,37 @@
+-- The letters, symbol, category and exit bit of each message, as pylint's reference has them.
+use Rattle.std.specs.Prelude.{ℕ, List, codes, if◌then◌else◌, ◌==◌, slice_index}
+use Rattle.lint_messages.specs.declared.code.Code.{Code}
+use Rattle.lint_messages.specs.declared.code.Code.TheVariants.{LineTooLong, TrailingWhitespace, MissingFinalNewline, SyntaxError, Fatal, ParseError}
+
+-- the category's letter and four digits
+abbrev pub letters : Code → List ℕ
+letters LineTooLong = codes "C0301"
+letters TrailingWhitespace = codes "C0303"
+letters MissingFinalNewline = codes "C0304"
+letters SyntaxError = codes "E0001"
+letters Fatal = codes "F0001"
+letters ParseError = codes "F0010"
+
+-- the name in words
+abbrev pub symbol : Code → List ℕ
+symbol LineTooLong = codes "line-too-long"
+symbol TrailingWhitespace = codes "trailing-whitespace"
+symbol MissingFinalNewline = codes "missing-final-newline"
+symbol SyntaxError = codes "syntax-error"
+symbol Fatal = codes "fatal"
+symbol ParseError = codes "parse-error"
+
+-- the category is the first of the letters
+abbrev pub category : Code → ℕ
+category code = slice_index (letters code) 0
+
+-- fatal 1, error 2, warning 4, refactor 8, convention 16
+abbrev pub bit_of : ℕ → ℕ
+bit_of letter =
+    if letter == 70 then 1
+    else (if letter == 69 then 2
+    else (if letter == 87 then 4
+    else (if letter == 82 then 8 else 16)))
+
+abbrev pub bit : Code → ℕ
+bit code = bit_of (category code)

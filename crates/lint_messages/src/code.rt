@@ -1,0 +1,78 @@
+// The codes of the messages: the one table of letters and symbols.
+ghost use Rattle.std.specs.Prelude.{◌≡◌};
+ghost use Rattle.lint_messages.specs.Codes.{letters, symbol, category, bit};
+
+/// A code, one for each message. The variants stand in the order of their letters, and are ordered so.
+#[derive(Clone, Copy, Debug, PartialEq, Eq, PartialOrd, Ord)]
+pub enum Code {
+    LineTooLong,
+    TrailingWhitespace,
+    MissingFinalNewline,
+    SyntaxError,
+    Fatal,
+    ParseError,
+}
+
+/// All codes, in their order.
+pub const ALL_CODES: [Code; 6] = [
+    Code::LineTooLong,
+    Code::TrailingWhitespace,
+    Code::MissingFinalNewline,
+    Code::SyntaxError,
+    Code::Fatal,
+    Code::ParseError,
+];
+
+impl Code {
+    /// The category's letter and four digits, as `C0301`.
+    pub fn letters(self) -> &'static str
+        ensures { result.now ≡ letters self }
+    {
+        match self {
+            Code::LineTooLong => "C0301",
+            Code::TrailingWhitespace => "C0303",
+            Code::MissingFinalNewline => "C0304",
+            Code::SyntaxError => "E0001",
+            Code::Fatal => "F0001",
+            Code::ParseError => "F0010",
+        }
+    }
+
+    /// The name in words, as `line-too-long`.
+    pub fn symbol(self) -> &'static str
+        ensures { result.now ≡ symbol self }
+    {
+        match self {
+            Code::LineTooLong => "line-too-long",
+            Code::TrailingWhitespace => "trailing-whitespace",
+            Code::MissingFinalNewline => "missing-final-newline",
+            Code::SyntaxError => "syntax-error",
+            Code::Fatal => "fatal",
+            Code::ParseError => "parse-error",
+        }
+    }
+
+    /// The category's letter: F, E, W, R or C.
+    pub fn category(self) -> char
+        ensures { result ≡ category self }
+    {
+        match self {
+            Code::LineTooLong | Code::TrailingWhitespace | Code::MissingFinalNewline => 'C',
+            Code::SyntaxError => 'E',
+            Code::Fatal | Code::ParseError => 'F',
+        }
+    }
+
+    /// The bit of the exit status.
+    pub fn bit(self) -> u8
+        ensures { result ≡ bit self }
+    {
+        match self.category() {
+            'F' => 1,
+            'E' => 2,
+            'W' => 4,
+            'R' => 8,
+            _ => 16,
+        }
+    }
+}

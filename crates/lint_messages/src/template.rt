@@ -1,0 +1,64 @@
+// The texts of the messages: the one table of their words.
+ghost use Rattle.std.specs.Prelude.{◌≡◌, ◌++◌, ◌<◌, IfOk, OnOk, map, length, drop, string_bytes};
+ghost use Rattle.lint_messages.specs.Templates.{template, argument, behind_arguments, text_of};
+
+use crate::{Code, Message};
+use lint_values::{Memory, Text};
+use std::alloc::Global;
+
+// The words of a text. Between any two of them stands an argument.
+fn template(code: Code) -> &'static [&'static str]
+    ensures words { map (λ w. w.now) result.now ≡ template code }
+    ensures some { 0 < length result.now }
+{
+    match code {
+        Code::LineTooLong => &["Line too long (", "/", ")"],
+        Code::TrailingWhitespace => &["Trailing whitespace"],
+        Code::MissingFinalNewline => &["Final newline missing"],
+        Code::SyntaxError => &["Parsing failed: '", " (line ", ")'"],
+        Code::Fatal => &["No module named ", ""],
+        Code::ParseError => &["error while code parsing: ", ""],
+    }
+}
+
+// The first argument, or nothing where there is none.
+fn first_argument(args: &[Text]) -> &str
+    ensures { result.now ≡ argument args.now }
+{
+    match args {
+        [first, ..] => first.as_str(),
+        [] => "",
+    }
+}
+
+fn behind_first(args: &[Text]) -> &[Text]
+    ensures { result.now ≡ drop 1 args.now }
+{
+    match args {
+        [_, rest @ ..] => rest,
+        [] => args,
+    }
+}
+
+// Adds each of these words behind its argument.
+fn push_behind_arguments(text: &mut String, words: &[&str], args: &[Text]) -> Result<(), Memory>
+    ensures { OnOk result (string_bytes text.new ≡ string_bytes text.old ++ behind_arguments (map (λ w. w.now) words.now) args.now) }
+{
+    let mut args = args;
+    for word in words {
+        text.push_str(first_argument(args))?;
+        text.push_str(word)?;
+        args = behind_first(args);
+    }
+    Ok(())
+}
+
+/// The text of a message with its arguments, of which a missing one counts as empty and a surplus one is passed over.
+pub fn message_text(alloc: Global, m: &Message) -> Result<Text, Memory>
+    ensures { IfOk result (λ text. text ≡ text_of m.now) }
+{
+    let words = template(m.code);
+    let mut text = String::from_str(alloc, words[0])?;
+    push_behind_arguments(&mut text, &words[1..], m.args.as_slice())?;
+    Ok(Text::from_string(text))
+}
