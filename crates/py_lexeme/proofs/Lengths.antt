@@ -1,5 +1,5 @@
 -- How long what is found may be.
-use Rattle.std.proofs.Common.{◌≡◌, ℕ, ◌+◌, ◌≤◌, Bool, true, false, not, ◌&&◌, ◌==◌, List, [], ◌∷◌, length, drop, ◌≢◌, slice_index, refl, arith}
+use Rattle.std.proofs.Common.{◌≡◌, ℕ, ◌+◌, ◌≤◌, Bool, true, false, not, ◌&&◌, ◌==◌, [], ◌∷◌, length, drop, ◌≢◌, slice_index, refl, arith}
 use Rattle.std.proofs.lemmas.Bool.{cond_both, and_parts, both_ways, eqb-false}
 use Rattle.std.proofs.lemmas.List.{length-drop}
 use Rattle.py_lexeme.specs.Characters.{Text, begins_with, ends_line}

@@ -1,9 +1,9 @@
 -- Operators: what the scanner finds is one, and the longest.
-use Rattle.std.proofs.Common.{◌≡◌, ℕ, zero, suc, ◌+◌, ◌≤◌, ◌<◌, Bool, true, false, ◌&&◌, ◌||◌, not, List, [], ◌∷◌, length, take, slice_index, refl, sym, subst, arith, ◌==◌, ⊎_elim, ◌⊎◌, if◌then◌else◌}
+use Rattle.std.proofs.Common.{◌≡◌, ℕ, zero, suc, ◌≤◌, ◌<◌, Bool, true, ◌&&◌, ◌||◌, not, [], ◌∷◌, length, take, slice_index, refl, sym, subst, arith, ◌==◌, ⊎_elim, if◌then◌else◌}
 use Rattle.std.specs.Prelude.{nat_le}
-use Rattle.std.specs.List.{list_all, list_any}
+use Rattle.std.specs.List.{list_all}
 use Rattle.std.specs.Str.{bytes_eq}
-use Rattle.std.proofs.lemmas.Bool.{and_parts, both_ways, cond_both, agree_below, agree_below_at, ltb-true, eqb-true, or_cases, leb-true}
+use Rattle.std.proofs.lemmas.Bool.{and_parts, cond_both, agree_below, agree_below_at, ltb-true, eqb-true, or_cases, leb-true}
 use Rattle.std.proofs.lemmas.Slice.Eq.{bytes_eq-Decides}
 use Rattle.py_lexeme.specs.Characters.{Text}
 use Rattle.py_lexeme.specs.Operators.{operators, is_operator}

@@ -1,9 +1,7 @@
 -- Runs of characters that pass a test, and tables of texts.
-use Rattle.std.proofs.Common.{◌≡◌, ℕ, zero, suc, ◌+◌, ◌≤◌, ◌<◌, max, Bool, true, false, cond, List, [], ◌∷◌, length, take, refl, sym, ap, ◌∙◌, subst, arith, eq-eqb, add_comm, add-one, length-take-le, ⊎_elim, eqb-true, ◌==◌}
+use Rattle.std.proofs.Common.{◌≡◌, ℕ, zero, suc, ◌+◌, ◌≤◌, Bool, true, false, cond, List, [], ◌∷◌, length, take, refl, arith, add_comm, add-one, ⊎_elim}
 use Rattle.std.specs.List.{prefix_len, list_all, list_any}
-use Rattle.std.specs.Str.{bytes_eq}
-use Rattle.std.proofs.lemmas.Bool.{and_parts, or_cases, both_ways, and_from, cond_both, or_left, or_right, cases_lt}
-use Rattle.std.proofs.lemmas.Slice.Eq.{bytes_eq-Decides}
+use Rattle.std.proofs.lemmas.Bool.{and_parts, or_cases, both_ways}
 
 run_passes_at : (p : ℕ → Bool) (c n : ℕ) (cs : List ℕ) (b : Bool) → p c ≡ b → list_all p (take n cs) ≡ true → list_all p (take (cond b (1 + n) 0) (c ∷ cs)) ≡ true
 run_passes_at p c n cs true h rest = rw (add_comm 1 n, add-one, h) rest

@@ -1,5 +1,5 @@
 -- The piece at the front as the scanner finds it, by the first characters. Only proofs stand on this file: what a piece is stands in Pieces.
-use Rattle.std.specs.Prelude.{ℕ, ◌+◌, Bool, true, false, not, ◌&&◌, ◌||◌, ◌==◌, nat_lt, max, if◌then◌else◌, List, [], ◌∷◌, length, take, drop, slice_index, Result, Ok, Err}
+use Rattle.std.specs.Prelude.{ℕ, ◌+◌, Bool, true, false, not, ◌&&◌, ◌||◌, ◌==◌, nat_lt, max, if◌then◌else◌, [], ◌∷◌, length, take, drop, slice_index, Result, Ok, Err}
 use Rattle.std.specs.List.{prefix_len}
 use Rattle.unicode_ident.specs.Ident.{is_xid_continue}
 use Rattle.py_lexeme.specs.declared.piece.Kind.{Kind}
@@ -13,7 +13,6 @@ use Rattle.py_lexeme.specs.declared.scan.Shape.TheVariants.{Blanks, Ending, Rema
 use Rattle.py_lexeme.specs.Characters.{Text, is_blank, ends_line, is_on_line, is_quote, is_letter, is_either, is_ascii, is_digit, is_hexadecimal, is_octal, is_binary, is_digit_or_bar, is_zero_or_bar, begins_with}
 use Rattle.py_lexeme.specs.Identifiers.{starts_identifier, is_keyword}
 use Rattle.py_lexeme.specs.Strings.{begins_string, prefix_of, quote_at, has_in_prefix}
-use Rattle.py_lexeme.specs.Operators.{operators}
 use Rattle.py_lexeme.specs.Pieces.{may_precede, is_legal}
 use Rattle.py_lexeme.specs.Faults.{begins_number, cause_of, flaw_of}
 
