@@ -1,9 +1,9 @@
 -- How long what is found may be.
-use Rattle.std.proofs.Common.{◌≡◌, ℕ, ◌+◌, ◌≤◌, Bool, true, false, not, ◌&&◌, ◌==◌, List, [], ◌∷◌, length, drop, ◌≢◌, slice_index, refl, arith}
+use Rattle.std.proofs.Common.{◌≡◌, ℕ, ◌+◌, ◌≤◌, Bool, true, false, not, ◌&&◌, ◌==◌, [], ◌∷◌, length, drop, ◌≢◌, slice_index, refl, arith}
 use Rattle.std.proofs.lemmas.Bool.{cond_both, and_parts, both_ways, eqb-false}
 use Rattle.std.proofs.lemmas.List.{length-drop}
 use Rattle.py_lexeme.specs.Characters.{Text, begins_with, ends_line}
-use Rattle.py_lexeme.specs.Scan.{further, close, longest_of, is_single}
+use Rattle.py_lexeme.specs.Scan.{further, close, is_single, is_pair, is_triple, operator}
 
 pub begins_with_length : (op cs : Text) → begins_with op cs ≡ true → length op ≤ length cs
 begins_with_length [] cs e = omega arith
@@ -28,17 +28,18 @@ close_within quote false (c ∷ cs) =
     cond_both (begins_with quote (c ∷ cs)) _ _ (λ k. k ≤ length (c ∷ cs)) (begins_with_length quote (c ∷ cs))
     (λ _. cond_both (not (length quote == 3) && ends_line c) 0 _ (λ k. k ≤ length (c ∷ cs)) (λ _. omega arith) (λ _. omega arith))
 
-pub longest_within : (ops : List Text) (cs : Text) → longest_of ops cs ≤ length cs
-longest_within [] cs = omega arith
-longest_within (op ∷ ops) cs =
-    let rest : longest_of ops cs ≤ length cs = longest_within ops cs in
-    cond_both (begins_with op cs) _ _ (λ k. k ≤ length cs) (λ e. let fits : length op ≤ length cs = begins_with_length op cs e in omega arith) (λ _. rest)
-
 -- what is found behind the first n characters lies within the text
 pub further_behind : (n d : ℕ) (cs : Text) → d ≤ length (drop n cs) → further n d ≤ length cs
 further_behind n d cs h = cond_both (d == 0) 0 (n + d) (λ k. k ≤ length cs) (λ _. omega arith) (λ ne. let some : d ≢ 0 = eqb-false d 0 ne in omega (arith, length-drop n cs))
 
--- a character that is an operator stands in the text
-pub single_within : (cs : Text) → is_single (slice_index cs 0) ≡ true → 1 ≤ length cs
-single_within [] e = absurd (both_ways _ refl e)
-single_within (c ∷ cs) e = omega arith
+-- an operator lies within the text
+pub operator_within : (cs : Text) → operator cs ≤ length cs
+operator_within [] = omega arith
+operator_within (c ∷ []) = cond_both (is_single c) 1 0 (λ n. n ≤ length (c ∷ [])) (λ _. omega arith) (λ _. omega arith)
+operator_within (c ∷ d ∷ []) =
+    cond_both (is_pair c d) 2 _ (λ n. n ≤ length (c ∷ d ∷ [])) (λ _. omega arith)
+    (λ _. cond_both (is_single c) 1 0 (λ n. n ≤ length (c ∷ d ∷ [])) (λ _. omega arith) (λ _. omega arith))
+operator_within (c ∷ d ∷ e ∷ cs) =
+    cond_both (is_triple c d e) 3 _ (λ n. n ≤ length (c ∷ d ∷ e ∷ cs)) (λ _. omega arith)
+    (λ _. cond_both (is_pair c d) 2 _ (λ n. n ≤ length (c ∷ d ∷ e ∷ cs)) (λ _. omega arith)
+    (λ _. cond_both (is_single c) 1 0 (λ n. n ≤ length (c ∷ d ∷ e ∷ cs)) (λ _. omega arith) (λ _. omega arith)))

@@ -1,5 +1,5 @@
 -- The piece at the front as the scanner finds it, by the first characters. Only proofs stand on this file: what a piece is stands in Pieces.
-use Rattle.std.specs.Prelude.{ℕ, ◌+◌, Bool, true, false, not, ◌&&◌, ◌||◌, ◌==◌, nat_lt, max, if◌then◌else◌, List, [], ◌∷◌, length, take, drop, slice_index, Result, Ok, Err}
+use Rattle.std.specs.Prelude.{ℕ, ◌+◌, Bool, true, false, not, ◌&&◌, ◌||◌, ◌==◌, nat_lt, max, if◌then◌else◌, [], ◌∷◌, length, take, drop, slice_index, Result, Ok, Err}
 use Rattle.std.specs.List.{prefix_len}
 use Rattle.unicode_ident.specs.Ident.{is_xid_continue}
 use Rattle.py_lexeme.specs.declared.piece.Kind.{Kind}
@@ -13,7 +13,6 @@ use Rattle.py_lexeme.specs.declared.scan.Shape.TheVariants.{Blanks, Ending, Rema
 use Rattle.py_lexeme.specs.Characters.{Text, is_blank, ends_line, is_on_line, is_quote, is_letter, is_either, is_ascii, is_digit, is_hexadecimal, is_octal, is_binary, is_digit_or_bar, is_zero_or_bar, begins_with}
 use Rattle.py_lexeme.specs.Identifiers.{starts_identifier, is_keyword}
 use Rattle.py_lexeme.specs.Strings.{begins_string, prefix_of, quote_at, has_in_prefix}
-use Rattle.py_lexeme.specs.Operators.{operators}
 use Rattle.py_lexeme.specs.Pieces.{may_precede, is_legal}
 use Rattle.py_lexeme.specs.Faults.{begins_number, cause_of, flaw_of}
 
@@ -33,11 +32,6 @@ is_in class.ZeroOrBar c = is_zero_or_bar c
 -- n further, where something is found there
 abbrev pub further : ℕ → ℕ → ℕ
 further n found = if found == 0 then 0 else n + found
-
--- the length of the longest that stands at the front, or 0
-abbrev pub longest_of : List Text → Text → ℕ
-longest_of [] cs = 0
-longest_of (op ∷ ops) cs = if begins_with op cs then max (length op) (longest_of ops cs) else longest_of ops cs
 
 abbrev pub line_end : Text → ℕ
 line_end [] = 0
@@ -105,25 +99,41 @@ string cs = further (prefix_of cs) (quoted (drop (prefix_of cs) cs))
 
 -- ---- operators
 
--- the second character of an operator that has one
-abbrev pub is_second : ℕ → Bool
-is_second c = c == 61 || c == 42 || c == 47 || c == 60 || c == 62 || c == 46
+abbrev pub is_arithmetic : ℕ → Bool
+is_arithmetic c = c == 43 || c == 45 || c == 42 || c == 47 || c == 37 || c == 38 || c == 124 || c == 94 || c == 64
+
+abbrev pub is_comparing : ℕ → Bool
+is_comparing c = c == 60 || c == 62 || c == 61 || c == 33 || c == 58
+
+-- an operator with `=` behind it
+abbrev pub is_augmented : ℕ → Bool
+is_augmented c = nat_lt c 128 && (is_arithmetic c || is_comparing c)
+
+-- an operator when it stands twice, and with `=` behind it
+abbrev pub is_doubled : ℕ → Bool
+is_doubled c = nat_lt c 128 && (c == 42 || c == 47 || c == 60 || c == 62)
 
 abbrev pub is_bracket : ℕ → Bool
 is_bracket c = c == 40 || c == 41 || c == 91 || c == 93 || c == 123 || c == 125
 
 abbrev pub is_mark : ℕ → Bool
-is_mark c = c == 44 || c == 58 || c == 46 || c == 59 || c == 61 || c == 60 || c == 62 || c == 64
+is_mark c = c == 44 || c == 58 || c == 46 || c == 59 || c == 61 || c == 60 || c == 62 || c == 126
 
-abbrev pub is_sign : ℕ → Bool
-is_sign c = c == 43 || c == 45 || c == 42 || c == 47 || c == 37 || c == 38 || c == 124 || c == 94 || c == 126
-
--- the character alone is an operator
+-- an operator alone
 abbrev pub is_single : ℕ → Bool
-is_single c = nat_lt c 128 && (is_bracket c || is_mark c || is_sign c)
+is_single c = nat_lt c 128 && (is_arithmetic c || (is_bracket c || is_mark c))
+
+abbrev pub is_pair : ℕ → ℕ → Bool
+is_pair c d = (d == 61 && is_augmented c) || ((is_doubled d && c == d) || (d == 62 && c == 45))
+
+abbrev pub is_triple : ℕ → ℕ → ℕ → Bool
+is_triple c d e = (e == 61 && (is_doubled d && c == d)) || (e == 46 && (d == 46 && c == 46))
 
 abbrev pub operator : Text → ℕ
-operator cs = if is_second (slice_index cs 1) then longest_of operators cs else (if is_single (slice_index cs 0) then 1 else 0)
+operator cs =
+    if is_triple (slice_index cs 0) (slice_index cs 1) (slice_index cs 2) then 3
+    else (if is_pair (slice_index cs 0) (slice_index cs 1) then 2
+    else (if is_single (slice_index cs 0) then 1 else 0))
 
 -- ---- the piece
 

@@ -1,37 +1,48 @@
 // Operators.
-ghost use Rattle.std.specs.Prelude.{◌≡◌, ◌≤◌, length, map};
-ghost use Rattle.py_lexeme.specs.Operators.{operators};
+ghost use Rattle.std.specs.Prelude.{◌≡◌, ◌≤◌, length};
 ghost use Rattle.py_lexeme.specs.Scan as spec;
 
-use crate::characters::{begins_with, char_at};
-use crate::tables::OPERATORS;
+use crate::characters::char_at;
 
-/// The length of the longest of the table that stands at the front, or 0.
-fn longest_of(mut table: &[&[u8]], cs: &[char]) -> usize
-    ensures { result ≡ spec.longest_of (map (λ op. op.now) table.entry.now) cs.now }
+/// Whether an operator is the character and `=` behind it.
+fn is_augmented(c: char) -> bool
+    ensures { result ≡ spec.is_augmented c }
 {
-    let mut best = 0;
-    while let [op, rest @ ..] = table {
-        if begins_with(cs, op) {
-            best = op.len().max(best);
-        }
-        table = rest;
-    }
-    best
+    c < '\u{80}' && (is_arithmetic(c) || is_comparing(c))
 }
 
-/// Whether an operator of two characters or three may have this one as its second.
-fn is_second(c: char) -> bool
-    ensures { result ≡ spec.is_second c }
+fn is_arithmetic(c: char) -> bool
+    ensures { result ≡ spec.is_arithmetic c }
 {
-    c == '=' || c == '*' || c == '/' || c == '<' || c == '>' || c == '.'
+    c == '+'
+        || c == '-'
+        || c == '*'
+        || c == '/'
+        || c == '%'
+        || c == '&'
+        || c == '|'
+        || c == '^'
+        || c == '@'
+}
+
+fn is_comparing(c: char) -> bool
+    ensures { result ≡ spec.is_comparing c }
+{
+    c == '<' || c == '>' || c == '=' || c == '!' || c == ':'
+}
+
+/// Whether an operator is the character twice, with or without `=` behind it.
+fn is_doubled(c: char) -> bool
+    ensures { result ≡ spec.is_doubled c }
+{
+    c < '\u{80}' && (c == '*' || c == '/' || c == '<' || c == '>')
 }
 
 /// Whether the character alone is an operator.
 fn is_single(c: char) -> bool
     ensures { result ≡ spec.is_single c }
 {
-    c < '\u{80}' && (is_bracket(c) || is_mark(c) || is_sign(c))
+    c < '\u{80}' && (is_arithmetic(c) || (is_bracket(c) || is_mark(c)))
 }
 
 fn is_bracket(c: char) -> bool
@@ -43,40 +54,34 @@ fn is_bracket(c: char) -> bool
 fn is_mark(c: char) -> bool
     ensures { result ≡ spec.is_mark c }
 {
-    c == ',' || c == ':' || c == '.' || c == ';' || c == '=' || c == '<' || c == '>' || c == '@'
+    c == ',' || c == ':' || c == '.' || c == ';' || c == '=' || c == '<' || c == '>' || c == '~'
 }
 
-fn is_sign(c: char) -> bool
-    ensures { result ≡ spec.is_sign c }
+fn is_pair(c: char, d: char) -> bool
+    ensures { result ≡ spec.is_pair c d }
 {
-    c == '+'
-        || c == '-'
-        || c == '*'
-        || c == '/'
-        || c == '%'
-        || c == '&'
-        || c == '|'
-        || c == '^'
-        || c == '~'
+    (d == '=' && is_augmented(c)) || ((is_doubled(d) && c == d) || (d == '>' && c == '-'))
 }
 
-#[tactic(auto, using(crate::proofs::Lengths::longest_within), unfolding(crate::specs::Operators::operators))]
-fn table_operator(cs: &[char]) -> usize
-    ensures value { result ≡ spec.longest_of operators cs.now }
-    ensures within { result ≤ length cs.now }
+fn is_triple(c: char, d: char, e: char) -> bool
+    ensures { result ≡ spec.is_triple c d e }
 {
-    longest_of(&OPERATORS, cs)
+    (e == '=' && (is_doubled(d) && c == d)) || (e == '.' && (d == '.' && c == '.'))
 }
 
-/// The length of the operator at the front, or 0. Most are of one character, and need no look at the table.
-#[tactic(auto, using(crate::proofs::Lengths::single_within))]
+/// The length of the longest operator at the front, or 0.
+#[tactic(auto, using(crate::proofs::Lengths::operator_within))]
 pub fn operator(cs: &[char]) -> usize
     ensures value { result ≡ spec.operator cs.now }
     ensures within { result ≤ length cs.now }
 {
-    if is_second(char_at(cs, 1)) {
-        table_operator(cs)
-    } else if is_single(char_at(cs, 0)) {
+    let c = char_at(cs, 0);
+    let d = char_at(cs, 1);
+    if is_triple(c, d, char_at(cs, 2)) {
+        3
+    } else if is_pair(c, d) {
+        2
+    } else if is_single(c) {
         1
     } else {
         0

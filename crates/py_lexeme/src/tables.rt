@@ -1,11 +1,4 @@
-// The words and operators of the language.
-
-pub const OPERATORS: [&[u8]; 47] = [
-    b"+", b"-", b"*", b"**", b"/", b"//", b"%", b"@", b"<<", b">>", b"&", b"|", b"^", b"~", b":=",
-    b"<", b">", b"<=", b">=", b"==", b"!=", b"(", b")", b"[", b"]", b"{", b"}", b",", b":", b".",
-    b";", b"=", b"->", b"+=", b"-=", b"*=", b"/=", b"//=", b"%=", b"@=", b"&=", b"|=", b"^=",
-    b">>=", b"<<=", b"**=", b"...",
-];
+// The words of the language.
 
 pub const KEYWORDS: [&[u8]; 35] = [
     b"False",
