@@ -1,0 +1,13 @@
+pub mod Lengths
+pub mod Runs
+pub mod Digits
+pub mod Shapes
+pub mod Decimals
+pub mod Strings
+pub mod FirstCharacter
+pub mod NumberLaws
+pub mod LineLaws
+pub mod StringFronts
+pub mod ShapeLaws
+pub mod Matches
+pub mod CutLaws

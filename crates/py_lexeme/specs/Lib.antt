@@ -1,0 +1,10 @@
+pub mod Characters
+pub mod Lines
+pub mod Identifiers
+pub mod Numbers
+pub mod Strings
+pub mod Operators
+pub mod Pieces
+pub mod Faults
+pub mod Answers
+pub mod Scan
