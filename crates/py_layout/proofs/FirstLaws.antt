@@ -19,7 +19,7 @@ use Rattle.py_layout.specs.Brackets.{left_open}
 use Rattle.py_layout.specs.LogicalLines.{lines_of}
 use Rattle.py_layout.specs.Indentation.{ground, levelled}
 use Rattle.py_layout.specs.FirstFault.{IsLineFault, IsItemFault, IsOpenBracket, IsFirstFault, IsLaidOut, OnFault, GivesOnly, FaultsOnly}
-use Rattle.py_layout.specs.Answers.{IsBracketFault, item_fault, earlier}
+use Rattle.py_layout.specs.Answers.{IsBracketFault, IsBracketWithin, item_fault, earlier}
 
 line_fault_unique : (items : List Item) (n m : ℕ) (c d : IndentationCause) → IsLineFault items n c → IsLineFault items m d → (n ≡ m) × (c ≡ d)
 line_fault_unique items n m c d a b =
@@ -105,3 +105,13 @@ pub every_fault_from : (items : List Item) (answer : Result (Vec Logical) Layout
 every_fault_from items (Ok found) laid fault n cause first = laid_out_faultless items found.items n cause laid first
 every_fault_from items (Err (At m other)) laid fault n cause first = first_fault_unique items m n other cause fault first
 every_fault_from items (Err Memory) laid fault n cause first = tt
+
+-- the earlier fault stands at an item where both do
+pub earlier_within : (n place : ℕ) (cause : IndentationCause) (fault : BracketFault) → place < n → IsBracketWithin n fault → OnFault (λ m _. m < n) (earlier place cause (item_fault fault))
+earlier_within n place cause (bracket_fault.At m wrong) here there =
+    cond_both (nat_lt m place) (At m (AtItem wrong)) (At place (AtLine cause)) (OnFault (λ k _. k < n)) (λ _. there) (λ _. here)
+earlier_within n place cause bracket_fault.Memory here there = tt
+
+pub item_fault_within : (n : ℕ) (fault : BracketFault) → IsBracketWithin n fault → OnFault (λ m _. m < n) (item_fault fault)
+item_fault_within n (bracket_fault.At m wrong) there = there
+item_fault_within n bracket_fault.Memory there = tt

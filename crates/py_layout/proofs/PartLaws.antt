@@ -8,7 +8,7 @@ use Rattle.py_layout.specs.declared.logical.LineFault.TheVariants as line_fault
 use Rattle.py_layout.specs.declared.fault.IndentationCause.{IndentationCause}
 use Rattle.py_layout.specs.LogicalLines.{depth_behind, ends_line, onto_first, parts_of, lines_from, line_of, token_count, indentation_of, Line}
 use Rattle.py_layout.specs.Indentation.{Stack, enter, levelled, onto_lines, behind_line, logical_of}
-use Rattle.py_layout.specs.Answers.{IsLineAdded, HasNoLevel, IsAddFault, IsLinesFault, onto_all}
+use Rattle.py_layout.specs.Answers.{IsLineAdded, HasNoLevel, IsAddFault, IsLinesFault, IsLineWithin, onto_all}
 use Rattle.py_layout.specs.Parts.{part_len}
 
 -- the first part, and those of what follows it
@@ -73,3 +73,7 @@ turn_fails out before place token n rest part later right fault some en ep el no
     let front = lines_front place token n rest part later some en ep el in
     let more = lines_from (place + length part) (token + token_count part) (parts_of 0 later) in
     subst (IsLinesFault fault) (ap (λ lines. onto_all out (levelled before lines)) (sym front) ∙ so_far) (add_fault_step out before (line_of place token part) more fault none)
+
+pub line_within_wider : (n m : ℕ) (fault : LineFault) → n ≤ m → IsLineWithin n fault → IsLineWithin m fault
+line_within_wider n m (line_fault.At place cause) le within = omega arith
+line_within_wider n m line_fault.Memory le within = tt

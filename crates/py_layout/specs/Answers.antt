@@ -1,5 +1,5 @@
 -- What the parts of the layout answer, as the code goes from part to part. Want of memory is free.
-use Rattle.std.specs.Prelude.{◌≡◌, ℕ, nat_lt, if◌then◌else◌, List, [], ◌∷◌, ◌++◌, reverse, Result, Ok, Err}
+use Rattle.std.specs.Prelude.{◌≡◌, ℕ, ◌<◌, length, slice_index_or, nat_lt, if◌then◌else◌, List, [], ◌∷◌, ◌++◌, reverse, Result, Ok, Err}
 use Rattle.std.specs.Global.{Vec}
 use Rattle.py_layout.specs.declared.item.Widths.{Widths}
 use Rattle.py_layout.specs.declared.bracket.Opened.{Opened}
@@ -27,6 +27,19 @@ abbrev pub LeavesOpen : Result (Vec Opened) BracketFault → Result (List Opened
 LeavesOpen (Ok opened) right = right ≡ Ok (reverse opened.items)
 LeavesOpen (Err fault) right = IsBracketFault fault right
 
+-- each of these brackets is one of the first n items
+abbrev pub AllWithin : ℕ → List Opened → Type 0
+AllWithin n opened = (k : ℕ) (d : Opened) → k < length opened → (slice_index_or opened k d).place < n
+
+abbrev pub IsBracketWithin : ℕ → BracketFault → Type 0
+IsBracketWithin n (bracket_fault.At place cause) = place < n
+IsBracketWithin n bracket_fault.Memory = Unit {0}
+
+-- what is answered are some of the first n items
+abbrev pub AreWithin : Result (Vec Opened) BracketFault → ℕ → Type 0
+AreWithin (Ok opened) n = AllWithin n opened.items
+AreWithin (Err fault) n = IsBracketWithin n fault
+
 -- the stack behind one line
 abbrev pub IsEnterFault : EnterFault → Result Stack IndentationCause → Type 0
 IsEnterFault (enter_fault.Cause cause) right = right ≡ Err cause
@@ -35,6 +48,11 @@ IsEnterFault enter_fault.Memory right = Unit {0}
 abbrev pub Enters : Result (Unit {0}) EnterFault → Result Stack IndentationCause → Stack → Type 0
 Enters (Ok u) right stack = right ≡ Ok stack
 Enters (Err fault) right stack = IsEnterFault fault right
+
+-- the line begins at one of the first n items
+abbrev pub IsLineWithin : ℕ → LineFault → Type 0
+IsLineWithin n (line_fault.At place cause) = place < n
+IsLineWithin n line_fault.Memory = Unit {0}
 
 -- the fault of a line that begins here
 abbrev pub line_fault_at : ℕ → EnterFault → LineFault

@@ -1,7 +1,7 @@
 // Which brackets stand open.
-ghost use Rattle.std.specs.Prelude.{◌≡◌};
+ghost use Rattle.std.specs.Prelude.{◌≡◌, length};
 ghost use Rattle.py_layout.specs.Brackets.{left_open};
-ghost use Rattle.py_layout.specs.Answers.{LeavesOpen};
+ghost use Rattle.py_layout.specs.Answers.{AreWithin, LeavesOpen};
 
 use crate::fault::ItemCause;
 use crate::item::{Bracket, Item};
@@ -22,7 +22,8 @@ pub(crate) enum BracketFault {
 
 /// The brackets that the items leave open, the outermost first.
 pub(crate) fn left_open(alloc: Global, items: &[Item]) -> Result<Vec<Opened>, BracketFault>
-    ensures { LeavesOpen result (left_open items.now) }
+    ensures value { LeavesOpen result (left_open items.now) }
+    ensures within { AreWithin result (length items.now) }
 {
     let mut opened: Vec<Opened> = Vec::new(alloc);
     for (place, item) in items.iter().enumerate() {

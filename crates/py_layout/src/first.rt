@@ -1,5 +1,5 @@
 // The layout, or its first fault.
-ghost use Rattle.std.specs.Prelude.{◌≡◌, ℕ, List, IfOk, IfErr, Ok, Err};
+ghost use Rattle.std.specs.Prelude.{◌≡◌, ◌<◌, ℕ, List, length, IfOk, IfErr, Ok, Err};
 ghost use Rattle.py_layout.specs.FirstFault.{FaultsOnly, GivesOnly, IsFirstFault, IsLaidOut, OnFault};
 ghost use Rattle.py_layout.specs.Indentation.{ground, levelled};
 ghost use Rattle.py_layout.specs.LogicalLines.{lines_of};
@@ -33,11 +33,12 @@ fn earlier(place: usize, cause: IndentationCause, other: LayoutFault) -> LayoutF
 }
 
 /// The first fault where each line has a level: that of an item, or an open bracket; or none.
-#[tactic(auto, using(crate::proofs::FirstLaws::item_first))]
+#[tactic(auto, using(crate::proofs::FirstLaws::item_first, crate::proofs::FirstLaws::item_fault_within))]
 fn close(alloc: Global, items: &[Item], lines: Vec<Logical>) -> Result<Vec<Logical>, LayoutFault>
     requires { levelled ground (lines_of items.now) ≡ Ok lines.items }
     ensures lines { IfOk result (λ found. IsLaidOut items.now found.items) }
     ensures fault { IfErr result (OnFault (IsFirstFault items.now)) }
+    ensures within { IfErr result (OnFault (λ n _. n < length items.now)) }
 {
     match left_open(alloc, items) {
         Ok(opened) => match opened.as_slice() {
@@ -49,10 +50,12 @@ fn close(alloc: Global, items: &[Item], lines: Vec<Logical>) -> Result<Vec<Logic
 }
 
 /// The first fault where a line has no level.
-#[tactic(auto, using(crate::proofs::FirstLaws::line_first, crate::proofs::FirstLaws::earlier_first))]
+#[tactic(auto, using(crate::proofs::FirstLaws::line_first, crate::proofs::FirstLaws::earlier_first, crate::proofs::FirstLaws::earlier_within))]
 fn line_fault(alloc: Global, items: &[Item], place: usize, cause: IndentationCause) -> LayoutFault
-    requires { levelled ground (lines_of items.now) ≡ Err (place, cause) }
-    ensures { OnFault (IsFirstFault items.now) result }
+    requires fault { levelled ground (lines_of items.now) ≡ Err (place, cause) }
+    requires within { place < length items.now }
+    ensures first { OnFault (IsFirstFault items.now) result }
+    ensures within { OnFault (λ n _. n < length items.now) result }
 {
     match left_open(alloc, items) {
         Ok(_) => return LayoutFault::At(place, LayoutCause::AtLine(cause)),
@@ -63,6 +66,7 @@ fn line_fault(alloc: Global, items: &[Item], place: usize, cause: IndentationCau
 fn laid_out(alloc: Global, items: &[Item]) -> Result<Vec<Logical>, LayoutFault>
     ensures lines { IfOk result (λ lines. IsLaidOut items.now lines.items) }
     ensures fault { IfErr result (OnFault (IsFirstFault items.now)) }
+    ensures within { IfErr result (OnFault (λ n _. n < length items.now)) }
 {
     match lines_of(alloc, items) {
         Ok(lines) => close(alloc, items, lines),
@@ -80,6 +84,7 @@ pub fn layout(alloc: Global, items: &[Item]) -> Result<Vec<Logical>, LayoutFault
     ensures every { (lines : List Logical) → IsLaidOut items.now lines → GivesOnly result lines }
     // A fault stands first where it is said.
     ensures fault { IfErr result (OnFault (IsFirstFault items.now)) }
+    ensures within { IfErr result (OnFault (λ n _. n < length items.now)) }
     // And where one does it is answered.
     ensures every_fault { (n : ℕ) (cause : LayoutCause) → IsFirstFault items.now n cause → FaultsOnly result n cause }
 {

@@ -1,8 +1,8 @@
 // Logical lines.
-ghost use Rattle.std.specs.Prelude.{◌≡◌, ◌<◌, ◌≤◌, ◌^◌, ◌+◌, length, reverse, vec_len, IfOk, OnOk};
+ghost use Rattle.std.specs.Prelude.{◌≡◌, ◌<◌, ◌≤◌, ◌^◌, ◌+◌, length, reverse, vec_len, IfErr, IfOk, OnOk};
 ghost use Rattle.py_layout.specs.LogicalLines.{indentation_of, is_token, line_of, lines_of, token_count};
 ghost use Rattle.py_layout.specs.Indentation.{ground, levelled};
-ghost use Rattle.py_layout.specs.Answers.{AddsLine, GivesLines, line_fault_at};
+ghost use Rattle.py_layout.specs.Answers.{AddsLine, GivesLines, IsLineWithin, line_fault_at};
 ghost use Rattle.py_layout.specs.Parts.{part_len};
 
 use crate::fault::IndentationCause;
@@ -76,7 +76,8 @@ fn indentation_of(part: &[Item]) -> Widths
 }
 
 fn line_fault_at(place: usize, fault: EnterFault) -> LineFault
-    ensures { result ≡ line_fault_at place fault }
+    ensures value { result ≡ line_fault_at place fault }
+    ensures here { IsLineWithin (place + 1) result }
 {
     match fault {
         EnterFault::Cause(cause) => LineFault::At(place, cause),
@@ -98,6 +99,7 @@ fn add_line(
     ensures few { OnOk result (vec_len stack.new ≤ 100) }
     ensures count { IfOk result (λ n. n ≡ token_count part.now) }
     ensures within { IfOk result (λ n. n ≤ length part.now) }
+    ensures here { IfErr result (IsLineWithin (place + 1)) }
 {
     let count = token_count(part);
     if count == 0 {
@@ -119,7 +121,8 @@ fn add_line(
 
 /// The logical lines of the items with their levels, or the first that has none.
 pub(crate) fn lines_of(alloc: Global, items: &[Item]) -> Result<Vec<Logical>, LineFault>
-    ensures { GivesLines result (levelled ground (lines_of items.now)) }
+    ensures value { GivesLines result (levelled ground (lines_of items.now)) }
+    ensures within { IfErr result (IsLineWithin (length items.now)) }
 {
     let mut stack = Vec::new(alloc);
     if stack.push(Widths { wide: 0, narrow: 0 }).is_err() {

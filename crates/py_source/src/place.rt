@@ -35,7 +35,7 @@ fn next_pos(at: Pos, ends: bool, width: u32) -> Pos
 /// The place of a byte of a text.
 pub fn pos_at(text: &[u8], place: usize) -> Pos
     requires within { place ≤ length text.now }
-    requires short { length text.now + 1 < 2 ^ 32 }
+    requires short { place + 1 < 2 ^ 32 }
     ensures { result ≡ pos_of text.now place }
 {
     let mut at = Pos { line: 1, col: 0 };
