@@ -1,5 +1,5 @@
 -- Items have one first fault, or one layout and no fault.
-use Rattle.std.proofs.Common.{◌≡◌, ℕ, ◌+◌, ◌≤◌, ◌<◌, List, [], ◌∷◌, ◌++◌, length, refl, sym, ap, ◌∙◌, arith, Result, Ok, Err, IfOk, IfErr, reverse, nat_lt, get_or}
+use Rattle.std.proofs.Common.{◌≡◌, ℕ, ◌≤◌, ◌<◌, List, [], ◌∷◌, ◌++◌, length, refl, sym, ap, ◌∙◌, arith, Result, Ok, Err, IfOk, IfErr, reverse, nat_lt, get_or}
 use Rattle.std.specs.Global.{Vec}
 use Rattle.std.proofs.lemmas.Grind.{reverse_onto}
 use Rattle.std.proofs.lemmas.List.{same_from_push, length-append}
@@ -18,7 +18,7 @@ use Rattle.py_layout.specs.declared.fault.LayoutFault.TheVariants.{At, Memory}
 use Rattle.py_layout.specs.Brackets.{left_open}
 use Rattle.py_layout.specs.LogicalLines.{lines_of}
 use Rattle.py_layout.specs.Indentation.{ground, levelled}
-use Rattle.py_layout.specs.FirstFault.{IsLineFault, IsItemFault, IsOpenBracket, IsFirstFault, IsLaidOut, OnFault, GivesOnly, FaultsOnly}
+use Rattle.py_layout.specs.FirstFault.{IsLineFault, IsItemFault, IsFirstFault, IsLaidOut, OnFault, GivesOnly, FaultsOnly}
 use Rattle.py_layout.specs.Answers.{IsBracketFault, IsBracketWithin, item_fault, earlier}
 
 line_fault_unique : (items : List Item) (n m : ℕ) (c d : IndentationCause) → IsLineFault items n c → IsLineFault items m d → (n ≡ m) × (c ≡ d)
@@ -57,7 +57,7 @@ laid_out_faultless items lines n OpenBracket laid fault =
     let same : [] ≡ fault.0.inner ++ fault.0.outermost ∷ [] = cc (x, y) in
     absurd (omega (arith, ap length same, length-append fault.0.inner (fault.0.outermost ∷ [])))
 
-laid_out_unique : (items : List Item) (xs ys : List Logical) → IsLaidOut items xs → IsLaidOut items ys → xs ≡ ys
+pub laid_out_unique : (items : List Item) (xs ys : List Logical) → IsLaidOut items xs → IsLaidOut items ys → xs ≡ ys
 laid_out_unique items xs ys a b = let x = a.levels in let y = b.levels in cc (x, y)
 
 -- each line has a level, and an item may not stand where it does

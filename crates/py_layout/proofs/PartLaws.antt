@@ -1,5 +1,5 @@
 -- Parts from the front, and their lines with levels.
-use Rattle.std.proofs.Common.{◌≡◌, ℕ, zero, suc, ◌+◌, ◌-◌, ◌≤◌, ◌<◌, Bool, true, false, List, [], ◌∷◌, ◌++◌, length, take, drop, refl, sym, ap, ◌∙◌, subst, arith, ⊎_elim, append_assoc, append-nil, Ok, Err, Result, ◌==◌}
+use Rattle.std.proofs.Common.{◌≡◌, ℕ, suc, ◌+◌, ◌≤◌, ◌<◌, Bool, true, false, List, [], ◌∷◌, ◌++◌, length, take, drop, refl, sym, ap, ◌∙◌, subst, arith, ⊎_elim, append_assoc, Ok, Err, Result, ◌==◌}
 use Rattle.std.proofs.lemmas.Bool.{cases_Bool, cond_both}
 use Rattle.py_layout.specs.declared.item.Item.{Item}
 use Rattle.py_layout.specs.declared.logical.Logical.{Logical}
@@ -7,7 +7,7 @@ use Rattle.py_layout.specs.declared.logical.LineFault.{LineFault}
 use Rattle.py_layout.specs.declared.logical.LineFault.TheVariants as line_fault
 use Rattle.py_layout.specs.declared.fault.IndentationCause.{IndentationCause}
 use Rattle.py_layout.specs.LogicalLines.{depth_behind, ends_line, onto_first, parts_of, lines_from, line_of, token_count, indentation_of, Line}
-use Rattle.py_layout.specs.Indentation.{Stack, enter, levelled, onto_lines, behind_line, logical_of}
+use Rattle.py_layout.specs.Indentation.{Stack, levelled, onto_lines, logical_of}
 use Rattle.py_layout.specs.Answers.{IsLineAdded, HasNoLevel, IsAddFault, IsLinesFault, IsLineWithin, onto_all}
 use Rattle.py_layout.specs.Parts.{part_len}
 

@@ -1,7 +1,6 @@
 -- What the parts of the layout answer, as the code goes from part to part. Want of memory is free.
 use Rattle.std.specs.Prelude.{◌≡◌, ℕ, ◌<◌, length, slice_index_or, nat_lt, if◌then◌else◌, List, [], ◌∷◌, ◌++◌, reverse, Result, Ok, Err}
 use Rattle.std.specs.Global.{Vec}
-use Rattle.py_layout.specs.declared.item.Widths.{Widths}
 use Rattle.py_layout.specs.declared.bracket.Opened.{Opened}
 use Rattle.py_layout.specs.declared.bracket.BracketFault.{BracketFault}
 use Rattle.py_layout.specs.declared.bracket.BracketFault.TheVariants as bracket_fault

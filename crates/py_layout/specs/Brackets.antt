@@ -1,5 +1,5 @@
 -- Brackets: a closing bracket closes the innermost open one, which is of its kind, and at most 200 are open at a time.
-use Rattle.std.specs.Prelude.{◌≡◌, ℕ, ◌+◌, ◌==◌, Bool, true, false, if◌then◌else◌, List, [], ◌∷◌, ◌++◌, length, Result, Ok, Err}
+use Rattle.std.specs.Prelude.{ℕ, ◌+◌, ◌==◌, Bool, true, false, if◌then◌else◌, List, [], ◌∷◌, length, Result, Ok, Err}
 use Rattle.py_layout.specs.declared.item.Bracket.{Bracket}
 use Rattle.py_layout.specs.declared.item.Bracket.TheVariants.{Round, Square, Curly}
 use Rattle.py_layout.specs.declared.item.Item.{Item}

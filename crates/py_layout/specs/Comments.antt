@@ -1,7 +1,7 @@
 -- A comment stands alone where only blanks stand before it on its physical line.
 use Rattle.std.specs.Prelude.{Bool, true, false, List, fold}
 use Rattle.py_layout.specs.declared.item.Item.{Item}
-use Rattle.py_layout.specs.declared.item.Item.TheVariants.{Blank, Comment, Join, LineEnd, Open, Close, Plain, Stop}
+use Rattle.py_layout.specs.declared.item.Item.TheVariants.{Blank, Join, LineEnd}
 
 -- whether the head of a physical line goes on behind the item
 abbrev pub is_head_behind : Bool → Item → Bool

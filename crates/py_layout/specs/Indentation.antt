@@ -1,6 +1,6 @@
 -- Indentation levels by a stack of widths, which begins with (0, 0). Equal first widths need equal second ones, and a greater
 -- first width a greater second one. A smaller first width stands on the stack, with its second width. 100 entries at most.
-use Rattle.std.specs.Prelude.{ℕ, ◌+◌, ◌-◌, ◌==◌, nat_lt, if◌then◌else◌, List, [], ◌∷◌, length, Result, Ok, Err}
+use Rattle.std.specs.Prelude.{ℕ, ◌-◌, ◌==◌, nat_lt, if◌then◌else◌, List, [], ◌∷◌, length, Result, Ok, Err}
 use Rattle.py_layout.specs.declared.item.Widths.{Widths}
 use Rattle.py_layout.specs.declared.fault.IndentationCause.{IndentationCause}
 use Rattle.py_layout.specs.declared.fault.IndentationCause.TheVariants.{Dedent, TabMix, TooDeep}

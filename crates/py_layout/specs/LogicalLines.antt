@@ -1,7 +1,7 @@
 -- Logical lines: a line end outside brackets ends one, and a line of blanks, form feeds and a comment is none.
 use Rattle.std.specs.Prelude.{ℕ, ◌+◌, ◌-◌, ◌==◌, Bool, true, false, if◌then◌else◌, List, [], ◌∷◌, ◌++◌, length, count_by}
 use Rattle.py_layout.specs.declared.item.Item.{Item}
-use Rattle.py_layout.specs.declared.item.Item.TheVariants.{Blank, Comment, Join, LineEnd, Open, Close, Plain, Stop}
+use Rattle.py_layout.specs.declared.item.Item.TheVariants.{Blank, LineEnd, Open, Close, Plain, Stop}
 use Rattle.py_layout.specs.declared.item.Widths.{Widths}
 use Rattle.py_layout.specs.Blanks.{no_widths}
 

@@ -1,9 +1,8 @@
 -- A step over a character is a step over its bytes.
-use Rattle.std.proofs.Common.{◌≡◌, ◌≢◌, ℕ, zero, suc, ◌+◌, ◌-◌, ◌<◌, ◌≤◌, Bool, true, false, List, [], ◌∷◌, ◌++◌, length, get_or, take, drop, refl, sym, ap, ◌∙◌, subst, arith, eqb, encode_utf8, encode_utf8_all, append-nil, ⊎_elim, length-append, zero-add}
+use Rattle.std.proofs.Common.{◌≡◌, ℕ, zero, suc, ◌+◌, ◌-◌, ◌<◌, ◌≤◌, false, List, [], ◌∷◌, ◌++◌, length, get_or, take, drop, refl, sym, ap, ◌∙◌, subst, arith, eqb, encode_utf8, encode_utf8_all, append-nil, ⊎_elim, length-append, zero-add}
 use Rattle.std.specs.Char.{len_utf8}
-use Rattle.std.proofs.Math.Nat.{suc-add}
 use Rattle.std.proofs.lemmas.Str.{encode_ascii, len_utf8_ascii, length-encode, byte_from_char, char_from_byte, inside_one}
-use Rattle.std.proofs.lemmas.Bool.{cases_lt, cases_Bool, eqb-true, eq-eqb, false≢true}
+use Rattle.std.proofs.lemmas.Bool.{cases_lt, cases_Bool, eqb-true}
 use Rattle.lint_values.specs.declared.place.Pos.{Pos}
 use Rattle.py_source.specs.Places.{pos_from, next_pos, ends_line}
 

@@ -1,6 +1,5 @@
 -- A file has one fault as a whole, or none.
-use Rattle.std.proofs.Common.{◌≡◌, ◌≢◌, ℕ, ◌<◌, ◌≤◌, Bool, true, false, List, length, get_or, refl, sym, ap, ◌∙◌, subst, arith, Some, None, Option, ⊎_elim, IsUtf8}
-use Rattle.std.specs.Str.{IsValidUpTo}
+use Rattle.std.proofs.Common.{◌≡◌, ℕ, false, List, sym, ◌∙◌, arith, None, ⊎_elim, IsUtf8}
 use Rattle.std.proofs.lemmas.Str.{utf8_valid_len-IsValidUpTo}
 use Rattle.std.proofs.lemmas.Bool.{cases_lt}
 use Rattle.py_source.specs.Coding.{other_encoding}

@@ -1,5 +1,5 @@
 -- The physical lines of a text are one list.
-use Rattle.std.proofs.Common.{◌≡◌, ℕ, zero, suc, ◌+◌, ◌-◌, ◌≤◌, ◌<◌, List, [], ◌∷◌, ◌++◌, length, drop, refl, sym, ap, ◌∙◌, subst, arith, append_assoc, append-nil}
+use Rattle.std.proofs.Common.{◌≡◌, ℕ, ◌+◌, ◌<◌, List, [], ◌∷◌, ◌++◌, length, refl, sym, ap, ◌∙◌, subst, arith, append_assoc, append-nil}
 use Rattle.py_source.specs.declared.span.Span.{Span}
 use Rattle.py_source.specs.Physical.{ArePhysical, ArePhysicalFrom, behind_line, line_len, whole_line_len}
 

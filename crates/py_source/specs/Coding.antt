@@ -1,6 +1,6 @@
 -- The comment that names an encoding: alone on line 1, or on line 2 behind a first line without code. It holds `coding`,
 -- `:` or `=`, blanks, and a name of ASCII letters, digits, `-`, `_` and `.`.
-use Rattle.std.specs.Prelude.{ℕ, ◌+◌, Bool, true, not, ◌&&◌, ◌||◌, ◌==◌, nat_le, nat_eq, if◌then◌else◌, List, [], ◌∷◌, length, drop, map, slice_index, codes, Option, Some, None}
+use Rattle.std.specs.Prelude.{ℕ, ◌+◌, Bool, not, ◌&&◌, ◌||◌, ◌==◌, nat_le, nat_eq, if◌then◌else◌, List, [], ◌∷◌, length, drop, map, slice_index, codes, Option, Some, None}
 use Rattle.std.specs.List.{prefix_len, take_while, starts_with}
 use Rattle.std.specs.Str.{bytes_eq}
 use Rattle.std.specs.Char.{to_ascii_lowercase}
