@@ -57,7 +57,7 @@ laid_out_faultless items lines n OpenBracket laid fault =
     let same : [] ≡ fault.0.inner ++ fault.0.outermost ∷ [] = cc (x, y) in
     absurd (omega (arith, ap length same, length-append fault.0.inner (fault.0.outermost ∷ [])))
 
-laid_out_unique : (items : List Item) (xs ys : List Logical) → IsLaidOut items xs → IsLaidOut items ys → xs ≡ ys
+pub laid_out_unique : (items : List Item) (xs ys : List Logical) → IsLaidOut items xs → IsLaidOut items ys → xs ≡ ys
 laid_out_unique items xs ys a b = let x = a.levels in let y = b.levels in cc (x, y)
 
 -- each line has a level, and an item may not stand where it does

@@ -49,7 +49,7 @@ same_stop cs ps qs s t a b =
     let place : s.place ≡ t.place = omega (arith, ap length same.1, a.place, b.place) in
     (same.0, λ i. record { cause = cause i; place = place i })
 
-IsCut-unique : (cs : Text) (ps qs : List Piece) (s t : Option Stop) → IsCut cs ps s → IsCut cs qs t → (ps ≡ qs) × (s ≡ t)
+pub IsCut-unique : (cs : Text) (ps qs : List Piece) (s t : Option Stop) → IsCut cs ps s → IsCut cs qs t → (ps ≡ qs) × (s ≡ t)
 IsCut-unique cs ps qs None None a b = ((Cuts-unique cs ps qs [] [] a b nothing_at_end nothing_at_end).0, refl)
 IsCut-unique cs ps qs None (Some t) a b = absurd (whole_no_stop cs ps qs t a b)
 IsCut-unique cs ps qs (Some s) None a b = absurd (whole_no_stop cs qs ps s b a)

@@ -1,0 +1,5 @@
+pub mod FileLaws
+pub mod OneAnswer
+pub mod ScanLaws
+pub mod StopLaws
+pub mod TextLaws

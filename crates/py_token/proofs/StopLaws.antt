@@ -1,0 +1,45 @@
+-- A text with a stop has no layout.
+use Rattle.std.proofs.Common.{◌≡◌, ℕ, true, List, ◌++◌, sym, ap, ◌∙◌, subst, append-nil, chars, Option, Some, None, Result, Ok, Err, OnOk, is_err, false}
+use Rattle.py_source.specs.Physical.{ArePhysical}
+use Rattle.py_lexeme.specs.declared.piece.Piece.{Piece}
+use Rattle.py_lexeme.specs.declared.piece.Stop.{Stop}
+use Rattle.py_lexeme.specs.Faults.{IsCut}
+use Rattle.py_layout.specs.declared.item.Item.{Item}
+use Rattle.py_layout.specs.declared.logical.Logical.{Logical}
+use Rattle.py_layout.proofs.StopLaws.{stop_not_laid_out}
+use Rattle.py_layout.specs.FirstFault.{IsLaidOut}
+use Rattle.py_token.specs.Items.{items_of, stop_item}
+use Rattle.py_token.specs.Scanned.{comments_from, tokens_from}
+use Rattle.py_token.specs.Tokenized.{IsRead, Tokenized}
+
+-- what a text is read as, where its items have a layout
+pub is_read : (text : List ℕ) (pieces : List Piece) (stop : Option Stop) (lines : List Logical) (read : Tokenized) → IsCut (chars text) pieces stop → IsLaidOut (items_of (chars text) pieces ++ stop_item stop) lines → read.text ≡ text → read.tokens ≡ tokens_from text (chars text) pieces → read.lines ≡ lines → read.comments ≡ comments_from text true (chars text) pieces → ArePhysical text read.physical → IsRead text read
+is_read text pieces (Some stop) lines read cut laid same tokens is_lines comments physical = absurd (stop_not_laid_out (items_of (chars text) pieces) lines laid)
+is_read text pieces None lines read cut laid same tokens is_lines comments physical =
+    record {
+      pieces = pieces;
+      cut = cut;
+      same = same;
+      tokens = tokens;
+      lines = subst (IsLaidOut (items_of (chars text) pieces)) (sym is_lines) (subst (λ items. IsLaidOut items lines) (append-nil (items_of (chars text) pieces)) laid);
+      comments = comments;
+      physical = physical;
+    }
+
+-- the same, where the parts have names
+pub is_read_at : (text cs : List ℕ) (pieces named : List Piece) (stop : Option Stop) (front items : List Item) (lines : List Logical) (read : Tokenized) → cs ≡ chars text → named ≡ pieces → IsCut cs pieces stop → front ≡ items_of cs named → items ≡ front ++ stop_item stop → IsLaidOut items lines → read.text ≡ text → read.tokens ≡ tokens_from text cs named → read.lines ≡ lines → read.comments ≡ comments_from text true cs named → ArePhysical text read.physical → IsRead text read
+is_read_at text cs pieces named stop front items lines read same is_named cut is_front is_items laid is_text tokens is_lines comments physical =
+    let there : items ≡ items_of (chars text) pieces ++ stop_item stop = is_items ∙ ap (λ xs. xs ++ stop_item stop) (is_front ∙ ap (items_of cs) is_named ∙ ap (λ x. items_of x pieces) same) in
+    is_read text pieces stop lines read
+    (subst (λ x. IsCut x pieces stop) same cut)
+    (subst (λ xs. IsLaidOut xs lines) there laid)
+    is_text
+    (tokens ∙ ap (tokens_from text cs) is_named ∙ ap (λ x. tokens_from text x pieces) same)
+    is_lines
+    (comments ∙ ap (comments_from text true cs) is_named ∙ ap (λ x. comments_from text true x pieces) same)
+    physical
+
+-- what holds of an Ok, where there is no error
+pub on_ok_gives : {T E : Type 0} (answer : Result T E) (P : Type 0) → OnOk answer P → is_err answer ≡ false → P
+on_ok_gives (Ok value) P holds none = holds
+on_ok_gives (Err fault) P holds none = absurd (cc none)

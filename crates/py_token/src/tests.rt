@@ -1,0 +1,97 @@
+use crate::{TokenCause, TokenFault, TokenKind, tokenize};
+use lint_values::Pos;
+use std::alloc::Global;
+use std::process::Abort;
+use std::test::Fail;
+
+/// The source is refused for this cause at this line and column.
+fn is_refused(
+    rt: &impl Abort,
+    alloc: Global,
+    source: &str,
+    line: u32,
+    col: u32,
+    cause: TokenCause,
+) {
+    assert!(rt; source.len() < 1000);
+    match tokenize(alloc, source.as_bytes()) {
+        Err(TokenFault::At(pos, found)) => {
+            assert_eq!(rt; found, cause, "{source}");
+            assert_eq!(rt; pos, Pos { line, col }, "{source}");
+        }
+        _ => assert!(rt; false, "{source}"),
+    }
+}
+
+#[test]
+fn the_first_fault_is_answered(rt: HostRuntime) -> Result<(), Fail> {
+    let rows = [
+        ("x = \"abc\n", 1, 4, TokenCause::OpenString),
+        (")\n", 1, 0, TokenCause::CloseBracket),
+        ("x = 1_\n", 1, 4, TokenCause::BadNumber),
+        ("x = (\n", 1, 4, TokenCause::OpenBracket),
+        ("x = (\n'''", 2, 0, TokenCause::OpenString),
+        ("x\n    y\n  ?\n", 3, 0, TokenCause::Dedent),
+        ("x\n\ty\n        z\n", 3, 0, TokenCause::TabMix),
+        ("x = \\ \n", 1, 4, TokenCause::Continuation),
+        ("x = '\u{e9}' ?\r\n", 1, 9, TokenCause::BadChar),
+        ("\u{feff}x = b'\u{e9}'\n", 1, 6, TokenCause::BadChar),
+        ("x\u{0}\n?", 1, 1, TokenCause::NulByte),
+        ("#\n# coding: latin-1\n'\u{e9}'?", 2, 0, TokenCause::Coding),
+    ];
+    for (source, line, col, cause) in rows {
+        is_refused(&rt, rt.alloc(), source, line, col, cause);
+    }
+    Ok(())
+}
+
+/// The source has these numbers of tokens, logical lines, comments and physical lines.
+fn is_read(
+    rt: &impl Abort,
+    alloc: Global,
+    source: &str,
+    tokens: usize,
+    lines: usize,
+    comments: usize,
+    physical: usize,
+) {
+    assert!(rt; source.len() < 1000);
+    match tokenize(alloc, source.as_bytes()) {
+        Ok(read) => {
+            assert_eq!(rt; read.count(), tokens, "{source}");
+            assert_eq!(rt; read.lines().len(), lines, "{source}");
+            assert_eq!(rt; read.comments().len(), comments, "{source}");
+            assert_eq!(rt; read.physical().len(), physical, "{source}");
+        }
+        Err(_) => assert!(rt; false, "{source}"),
+    }
+}
+
+#[test]
+fn a_source_is_read(rt: HostRuntime) -> Result<(), Fail> {
+    let rows = [
+        ("", 0, 0, 0, 0),
+        ("if x:\n    y = (1,  # one\n  2)\n# end", 10, 2, 2, 4),
+        ("\u{feff}x\\\r\n  + f'{y}'\r\n", 3, 1, 0, 2),
+    ];
+    for (source, tokens, lines, comments, physical) in rows {
+        is_read(&rt, rt.alloc(), source, tokens, lines, comments, physical);
+    }
+    Ok(())
+}
+
+#[test]
+fn a_token_is_a_slice_of_the_source(rt: HostRuntime) -> Result<(), Fail> {
+    match tokenize(rt.alloc(), b"x = 'ab'  # c\n") {
+        Ok(read) => {
+            assert!(rt; read.count() == 3);
+            assert_eq!(rt; read.text(2), "'ab'");
+            assert_eq!(rt; read.token(2).kind, TokenKind::Str);
+            assert_eq!(rt; read.token(2).pos, Pos { line: 1, col: 4 });
+            assert!(rt; read.comments().len() == 1);
+            assert!(rt; !read.comments()[0].alone);
+        }
+        Err(_) => assert!(rt; false),
+    }
+    Ok(())
+}

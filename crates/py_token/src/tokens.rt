@@ -1,0 +1,103 @@
+// The tokens of a source.
+ghost use Rattle.std.specs.Prelude.{◌≡◌, ◌<◌, length, slice_get, Some, IfSome};
+ghost use Rattle.py_source.specs.Spans.{bytes_of};
+
+use crate::token::{Comment, Token};
+use py_layout::Logical;
+use py_source::{Span, slice};
+use std::marker::Model;
+
+/// The tokens of a source with its text, logical lines, comments and physical lines.
+#[derive(Debug, Drop)]
+pub struct Tokens<'a> {
+    text: &'a str,
+    tokens: Vec<Token>,
+    lines: Vec<Logical>,
+    comments: Vec<Comment>,
+    physical: Vec<Span>,
+}
+
+impl<'a> Model for Tokens<'a> {
+    ghost use Rattle.py_token.specs.Tokenized.{Tokenized};
+    ghost use Rattle.py_token.specs.Spans.{AreParts};
+
+    ghost Value = { Tokenized };
+
+    ghost view = { λ t. record { text = t.text.now; tokens = t.tokens.items; lines = t.lines.items; comments = t.comments.items; physical = t.physical.items } };
+
+    ghost invariant = { λ t. AreParts t.text.now t.tokens.items };
+}
+
+impl<'a> Tokens<'a> {
+    ghost use Rattle.py_token.specs.Spans.{AreParts, span_of};
+
+    pub(crate) fn new(
+        text: &'a str,
+        tokens: Vec<Token>,
+        lines: Vec<Logical>,
+        comments: Vec<Comment>,
+        physical: Vec<Span>,
+    ) -> Tokens<'a>
+        requires { AreParts text.now tokens.items }
+        ensures { result ≡ record { text = text.now; tokens = tokens.items; lines = lines.items; comments = comments.items; physical = physical.items } }
+    {
+        Tokens {
+            text,
+            tokens,
+            lines,
+            comments,
+            physical,
+        }
+    }
+
+    /// How many tokens there are.
+    pub fn count(&self) -> usize
+        ensures { result ≡ length self.now.tokens }
+    {
+        self.tokens.len()
+    }
+
+    /// The token with this number, from 0.
+    pub fn token(&self, i: usize) -> Token
+        requires { i < length self.now.tokens }
+        ensures { slice_get self.now.tokens i ≡ Some result }
+    {
+        self.tokens[i]
+    }
+
+    /// The slice of the source that the token is.
+    pub fn text(&self, i: usize) -> &'a str
+        requires { i < length self.now.tokens }
+        ensures { IfSome (slice_get self.now.tokens i) (λ token. result.now ≡ bytes_of self.now.text (span_of token)) }
+    {
+        let token = self.tokens[i];
+        slice(
+            self.text,
+            Span {
+                start: token.start,
+                end: token.end,
+            },
+        )
+    }
+
+    /// The logical lines, by the numbers of their tokens.
+    pub fn lines(&self) -> &[Logical]
+        ensures { result.now ≡ self.now.lines }
+    {
+        self.lines.as_slice()
+    }
+
+    /// The comments, in the order of the text.
+    pub fn comments(&self) -> &[Comment]
+        ensures { result.now ≡ self.now.comments }
+    {
+        self.comments.as_slice()
+    }
+
+    /// The physical lines, by their byte places without their line ends.
+    pub fn physical(&self) -> &[Span]
+        ensures { result.now ≡ self.now.physical }
+    {
+        self.physical.as_slice()
+    }
+}

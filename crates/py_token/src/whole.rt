@@ -1,0 +1,203 @@
+// A whole source, read.
+ghost use Rattle.std.specs.Prelude.{◌≡◌, ◌<◌, ◌≤◌, ◌^◌, ◌++◌, length, None, IfOk, IfErr, IfSome, OnOk, chars};
+ghost use Rattle.lint_values.specs.declared.place.Pos.{Pos};
+ghost use Rattle.py_source.specs.Decoding.{IsSourceFault, without_mark};
+ghost use Rattle.py_lexeme.specs.Faults.{IsCut};
+ghost use Rattle.py_layout.specs.FirstFault as layout_fault;
+ghost use Rattle.py_token.specs.FirstFault.{IsFirstFault, IsTextFault, fault_rest, rest_at};
+ghost use Rattle.py_token.specs.Items.{all_items, items_of, stop_item};
+ghost use Rattle.py_token.specs.Scanned.{comments_from, tokens_from};
+ghost use Rattle.py_source.specs.Physical.{ArePhysical};
+ghost use Rattle.py_token.specs.Spans.{AreParts};
+ghost use Rattle.py_token.specs.Steps.{AreCut};
+ghost use Rattle.py_token.specs.Tokenized.{FaultsOnly, GivesOnly, IsRead, IsTokenized, OnFault, Tokenized};
+ghost use Rattle.py_token.specs.declared.fault.TokenCause.{TokenCause};
+
+use crate::fault::{TokenCause, TokenFault, source_cause, text_cause};
+use crate::scan::{Scanned, scan};
+use crate::token::{Comment, Token};
+use crate::tokens::Tokens;
+use lint_values::{Memory, Pos};
+use py_layout::{Item, ItemCause, LayoutCause, LayoutFault, Logical, layout};
+use py_lexeme::{Cut, Piece, Stop, cut};
+use py_source::{SourceFault, byte_len, characters, decode, physical, pos_at, without_mark};
+use std::alloc::Global;
+
+/// A fault of the file as a whole.
+#[tactic(auto, using(crate::proofs::FileLaws::source_within, crate::proofs::FileLaws::without_mark_le))]
+fn file_fault(bytes: &[u8], fault: SourceFault) -> TokenFault
+    requires fault { IsSourceFault bytes.now fault.place fault.cause }
+    requires short { length bytes.now < 2 ^ 32 }
+    ensures { OnFault (IsFirstFault bytes.now) result }
+{
+    let pos = pos_at(without_mark(bytes), fault.place);
+    TokenFault::At(pos, source_cause(fault.cause))
+}
+
+/// The characters from item n on.
+fn rest_at<'c>(characters: &'c [char], pieces: &[Piece], n: usize) -> &'c [char]
+    requires { AreCut characters.now pieces.now }
+    ensures { result.now ≡ rest_at characters.now pieces.now n }
+{
+    let mut rest = characters;
+    let mut left = n;
+    for piece in pieces {
+        if left == 0 {
+            return rest;
+        }
+        rest = rest.split_at(piece.len as usize).1;
+        left -= 1;
+    }
+    rest
+}
+
+/// The characters from the fault on.
+fn fault_rest<'c>(
+    characters: &'c [char],
+    pieces: &[Piece],
+    stop: Option<Stop>,
+    n: usize,
+    cause: LayoutCause,
+) -> &'c [char]
+    requires cut { AreCut characters.now pieces.now }
+    requires stop { IfSome stop (λ s. s.place ≤ length characters.now) }
+    ensures { result.now ≡ fault_rest characters.now pieces.now stop n cause }
+{
+    match cause {
+        LayoutCause::AtItem(ItemCause::Stopped) => match stop {
+            Some(stop) => characters.split_at(stop.place as usize).1,
+            None => rest_at(characters, pieces, n),
+        },
+        _ => rest_at(characters, pieces, n),
+    }
+}
+
+/// The fault of a text whose items have this first fault.
+fn text_fault(
+    text: &str,
+    characters: &[char],
+    cut: &Cut,
+    n: usize,
+    cause: LayoutCause,
+) -> TokenFault
+    requires same { characters.now ≡ chars text.now }
+    requires short { length text.now < 2 ^ 32 }
+    requires cut { IsCut characters.now cut.now.pieces.items cut.now.stop }
+    requires first { layout_fault.IsFirstFault (all_items characters.now cut.now.pieces.items cut.now.stop) n cause }
+    requires within { n < length (all_items characters.now cut.now.pieces.items cut.now.stop) }
+    ensures { OnFault (IsTextFault text.now) result }
+{
+    let rest = fault_rest(characters, cut.pieces.as_slice(), cut.stop, n, cause);
+    let start = text.len() - byte_len(rest);
+    let pos = pos_at(text.as_bytes(), start);
+    TokenFault::At(pos, text_cause(cut.stop, cause))
+}
+
+/// Adds a stop, where the cut has one.
+fn add_stop(items: &mut Vec<Item>, stop: Option<Stop>) -> Result<(), Memory>
+    ensures { OnOk result (items.new.items ≡ items.old.items ++ stop_item stop) }
+{
+    match stop {
+        None => Ok(()),
+        Some(_) => {
+            items.push(Item::Stop)?;
+            Ok(())
+        }
+    }
+}
+
+/// The tokens of a text, with its lines.
+fn finish<'a>(
+    alloc: Global,
+    text: &'a str,
+    tokens: Vec<Token>,
+    comments: Vec<Comment>,
+    lines: Vec<Logical>,
+) -> Result<Tokens<'a>, Memory>
+    requires short { length text.now < 2 ^ 32 }
+    requires parts { AreParts text.now tokens.items }
+    ensures tokens { IfOk result (λ read. read.tokens ≡ tokens.items) }
+    ensures comments { IfOk result (λ read. read.comments ≡ comments.items) }
+    ensures lines { IfOk result (λ read. read.lines ≡ lines.items) }
+    ensures text { IfOk result (λ read. read.text ≡ text.now) }
+    ensures physical { IfOk result (λ read. ArePhysical text.now read.physical) }
+{
+    let physical = physical(alloc, text)?;
+    Ok(Tokens::new(text, tokens, lines, comments, physical))
+}
+
+/// Reads a text that is cut so.
+fn read_cut<'a>(
+    alloc: Global,
+    text: &'a str,
+    characters: &[char],
+    cut: &Cut,
+) -> Result<Tokens<'a>, TokenFault>
+    requires same { characters.now ≡ chars text.now }
+    requires short { length text.now < 2 ^ 32 }
+    requires cut { IsCut characters.now cut.now.pieces.items cut.now.stop }
+    ensures read { IfOk result (IsRead text.now) }
+    ensures fault { IfErr result (OnFault (IsTextFault text.now)) }
+{
+    let Ok(scanned) = scan(alloc, text, characters, cut.pieces.as_slice()) else {
+        return Err(TokenFault::Memory);
+    };
+    let Scanned {
+        mut items,
+        tokens,
+        comments,
+    } = scanned;
+    if add_stop(&mut items, cut.stop).is_err() {
+        return Err(TokenFault::Memory);
+    }
+    match layout(alloc, items.as_slice()) {
+        Ok(lines) => match finish(alloc, text, tokens, comments, lines) {
+            Ok(read) => Ok(read),
+            Err(_) => Err(TokenFault::Memory),
+        },
+        Err(LayoutFault::At(n, cause)) => Err(text_fault(text, characters, cut, n, cause)),
+        Err(LayoutFault::Memory) => Err(TokenFault::Memory),
+    }
+}
+
+/// Reads a text.
+fn read<'a>(alloc: Global, text: &'a str) -> Result<Tokens<'a>, TokenFault>
+    requires { length text.now < 2 ^ 32 }
+    ensures read { IfOk result (IsRead text.now) }
+    ensures fault { IfErr result (OnFault (IsTextFault text.now)) }
+{
+    let Ok(all) = characters(alloc, text) else {
+        return Err(TokenFault::Memory);
+    };
+    match cut(alloc, all.as_slice()) {
+        Ok(pieces) => read_cut(alloc, text, all.as_slice(), &pieces),
+        Err(_) => Err(TokenFault::Memory),
+    }
+}
+
+#[tactic(auto, using(crate::proofs::FileLaws::of_source, crate::proofs::FileLaws::without_mark_le))]
+fn read_source<'a>(alloc: Global, bytes: &'a [u8]) -> Result<Tokens<'a>, TokenFault>
+    requires { length bytes.now < 2 ^ 32 }
+    ensures tokens { IfOk result (IsTokenized bytes.now) }
+    ensures fault { IfErr result (OnFault (IsFirstFault bytes.now)) }
+{
+    match decode(bytes) {
+        Ok(text) => read(alloc, text),
+        Err(fault) => Err(file_fault(bytes, fault)),
+    }
+}
+
+/// The tokens of a source, or its first fault.
+pub fn tokenize<'a>(alloc: Global, bytes: &'a [u8]) -> Result<Tokens<'a>, TokenFault>
+    requires { length bytes.now < 2 ^ 32 }
+    // What is given is what the source is read as.
+    ensures tokens { IfOk result (IsTokenized bytes.now) }
+    // Whatever the source is read as is given, unless memory runs out.
+    ensures every { (read : Tokenized) → IsTokenized bytes.now read → GivesOnly result read }
+    // A fault stands first where it is said.
+    ensures fault { IfErr result (OnFault (IsFirstFault bytes.now)) }
+    // And where one stands first it is answered.
+    ensures every_fault { (pos : Pos) (cause : TokenCause) → IsFirstFault bytes.now pos cause → FaultsOnly result pos cause }
+{
+    read_source(alloc, bytes)
+}
