@@ -1,11 +1,11 @@
 -- The nodes of a tree in preorder: a kid comes behind its parent, siblings ascend, and each node but the root has one
 -- parent.
-use Rattle.std.proofs.Common.{◌≡◌, ℕ, zero, suc, ◌+◌, ◌-◌, ◌<◌, ◌≤◌, List, [], ◌∷◌, ◌++◌, length, map, get_or, refl, sym, ap, subst, ◌∙◌, append_assoc, arith, length-append, Option, Some, None, ◌⊎◌, inl, inr, ⊎_elim}
-use Rattle.std.specs.Prelude.{All, Contains, slice_index}
+use Rattle.std.proofs.Common.{◌≡◌, ℕ, zero, suc, ◌+◌, ◌-◌, ◌<◌, ◌≤◌, List, [], ◌∷◌, ◌++◌, length, get_or, refl, sym, ap, subst, ◌∙◌, arith, length-append, Option, Some, None, ◌⊎◌, inl, inr, ⊎_elim}
+use Rattle.std.specs.Prelude.{All, Contains}
 use Rattle.std.specs.List.Sorted.{IsStrictlyIncreasing}
 use Rattle.std.proofs.lemmas.List.{append-nil}
 use Rattle.tree_nodes.specs.Kept.{parent_in}
-use Rattle.tree_nodes.specs.Trees.{Node, Trees, none, tree, Tree, size, count_of, numbers, Entry, entry_of, entries_from, entries_at, entries, entry_at, kids_at, parent_at}
+use Rattle.tree_nodes.specs.Trees.{Node, Trees, none, tree, Tree, size, count_of, numbers, Entry, entry_of, entries_from, entries, entry_at, kids_at, parent_at}
 
 -- ---- how many
 

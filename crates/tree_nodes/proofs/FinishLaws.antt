@@ -1,17 +1,17 @@
 -- Nodes in preorder, out of the rows of a builder: what is still to be given out, as nodes are taken from a stack.
 use Rattle.std.proofs.Common.{◌≡◌, ℕ, zero, suc, ◌+◌, ◌<◌, ◌≤◌, List, [], ◌∷◌, ◌++◌, length, map, get_or, reverse, refl, sym, ap, subst, ◌∙◌, append_assoc, add-one, arith, length-append, lit<, Option, Some, None}
-use Rattle.std.specs.Prelude.{All, slice_index}
+use Rattle.std.specs.Prelude.{All}
 use Rattle.std.proofs.lemmas.List.{append-nil, map-append, length-map, get_or-map, reverse-append}
 use Rattle.std.proofs.lemmas.List.Elements.{All-append, All-push, All-map}
 use Rattle.lint_values.specs.declared.place.NodeId.{NodeId}
 use Rattle.tree_nodes.specs.declared.builder.BuiltRow.{BuiltRow}
 use Rattle.tree_nodes.specs.declared.finish.Open.{Open}
 use Rattle.tree_nodes.specs.declared.tree.TreeRow.{TreeRow}
-use Rattle.tree_nodes.specs.Trees.{Node, Trees, none, tree, Tree, pack, size, count_of, numbers, Entry, entry_of, entries_from, entries_at, entries}
+use Rattle.tree_nodes.specs.Trees.{Tree, pack, size, count_of, numbers, Entry, entry_of, entries_from, entries_at, entries}
 use Rattle.tree_nodes.specs.Back.{no_tree, tree_from, tree_from-entries}
 use Rattle.tree_nodes.specs.Rows.{Row, picked, tree_over, trees_of, tree_of}
-use Rattle.tree_nodes.specs.Kept.{within, node_in, FitsIn, IsTextIn, number_of, parent_in}
-use Rattle.tree_nodes.specs.Built.{row_in, rows_in, RowFits, AreEarlier, sizes_in, total, IsBuilt}
+use Rattle.tree_nodes.specs.Kept.{within, node_in, number_of, parent_in}
+use Rattle.tree_nodes.specs.Built.{row_in, rows_in, RowFits, AreEarlier, IsBuilt}
 use Rattle.tree_nodes.specs.Finished.{entry_in, entries_in, NodeFits, IsFinished}
 use Rattle.tree_nodes.specs.Finishing.{numbers_by, opened, pending, AreLinked, GivesOut, IsFinishing}
 use Rattle.tree_nodes.proofs.KeptLaws.{map-same, all_of_one, within-append, within-seam, fits-append}

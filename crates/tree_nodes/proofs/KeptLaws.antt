@@ -1,6 +1,6 @@
 -- What is kept stays as it is while names and kids are added behind it.
-use Rattle.std.proofs.Common.{◌≡◌, ℕ, zero, suc, ◌+◌, ◌-◌, ◌<◌, ◌≤◌, Bool, true, false, List, [], ◌∷◌, ◌++◌, length, map, get_or, take, drop, refl, sym, ap, subst, ◌∙◌, arith, length-append, Option, Some, None, cond, ⊎_elim}
-use Rattle.std.specs.Prelude.{All, slice_range}
+use Rattle.std.proofs.Common.{◌≡◌, ℕ, zero, suc, ◌+◌, ◌-◌, ◌<◌, ◌≤◌, Bool, true, false, List, [], ◌∷◌, ◌++◌, length, map, get_or, take, drop, refl, sym, ap, subst, ◌∙◌, arith, length-append, Some, None, cond, ⊎_elim}
+use Rattle.std.specs.Prelude.{All}
 use Rattle.std.specs.Str.{IsCharBoundary, IsUtf8}
 use Rattle.std.proofs.lemmas.Str.{IsCharBoundary-at_seam}
 use Rattle.std.proofs.lemmas.List.{drop-append-le, take-append-le, length-drop, get_or_append_left}
@@ -8,7 +8,7 @@ use Rattle.std.proofs.Math.Seq.{drop-append_seam, take-length}
 use Rattle.std.proofs.lemmas.Bool.{cases_lt}
 use Rattle.tree_nodes.specs.declared.label.Label.{Label}
 use Rattle.tree_nodes.specs.declared.label.Span.{Span}
-use Rattle.tree_nodes.specs.Kept.{within, name_in, node_in, FitsIn, IsTextIn}
+use Rattle.tree_nodes.specs.Kept.{within, node_in, FitsIn, IsTextIn}
 
 -- ---- lists
 

@@ -1,12 +1,12 @@
 -- What the rows of a finished tree say of its nodes.
-use Rattle.std.proofs.Common.{◌≡◌, ℕ, zero, suc, ◌+◌, ◌<◌, ◌≤◌, List, [], ◌∷◌, length, map, get_or, refl, sym, ap, subst, ◌∙◌, arith, Option, Some, None, Bool, true, false, cond}
+use Rattle.std.proofs.Common.{◌≡◌, ℕ, ◌<◌, List, [], length, map, get_or, sym, ap, subst, ◌∙◌, arith, Option, Some, None, Bool, true, false, cond}
 use Rattle.std.specs.Prelude.{All}
 use Rattle.std.proofs.lemmas.List.{length-map, get_or-map}
 use Rattle.lint_values.specs.declared.place.NodeId.{NodeId}
 use Rattle.tree_nodes.specs.declared.label.Label.{Label}
 use Rattle.tree_nodes.specs.declared.label.Span.{Span}
 use Rattle.tree_nodes.specs.declared.tree.TreeRow.{TreeRow}
-use Rattle.tree_nodes.specs.Trees.{Tree, Entry, count_of, entries, entry_at, node_at, kids_at, parent_at}
+use Rattle.tree_nodes.specs.Trees.{Tree, Entry, count_of, entries, entry_at, node_at, kids_at}
 use Rattle.tree_nodes.specs.Back.{tree_from}
 use Rattle.tree_nodes.specs.Kept.{within, name_in, number_of}
 use Rattle.tree_nodes.specs.Finished.{entry_in, entries_in, NodeFits, IsFinished, IsRowOf}

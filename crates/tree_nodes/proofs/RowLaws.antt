@@ -1,19 +1,19 @@
 -- The trees of rows, as rows are added.
-use Rattle.std.proofs.Common.{◌≡◌, ℕ, zero, suc, ◌+◌, ◌<◌, ◌≤◌, List, [], ◌∷◌, ◌++◌, length, map, get_or, refl, sym, ap, subst, ◌∙◌, append_assoc, arith, length-append, Bool, Option, Some, None, cond, unwrap_or, Result, Ok, Err, OnErr, Bor, option_copied}
-use Rattle.std.specs.Prelude.{All, slice_index}
+use Rattle.std.proofs.Common.{◌≡◌, ℕ, zero, suc, ◌+◌, ◌<◌, List, [], ◌∷◌, ◌++◌, length, map, get_or, refl, sym, ap, subst, ◌∙◌, arith, length-append, Bool, Option, Some, None, cond, unwrap_or, Result, Ok, Err, OnErr, Bor, option_copied}
+use Rattle.std.specs.Prelude.{All}
 use Rattle.std.specs.Prelude.{is_some}
 use Rattle.std.specs.Str.{IsUtf8, IsCharBoundary}
 use Rattle.std.proofs.lemmas.Str.{IsCharBoundary-at_seam, IsCharBoundary-end}
 use Rattle.std.proofs.lemmas.List.{append-nil, map-append, length-map, get_or-map, get_or_append_left}
-use Rattle.std.proofs.lemmas.List.Elements.{All-append, All-push}
+use Rattle.std.proofs.lemmas.List.Elements.{All-push}
 use Rattle.std.proofs.Math.Seq.{get_or-append_seam}
 use Rattle.tree_nodes.specs.declared.builder.BuiltRow.{BuiltRow}
-use Rattle.tree_nodes.specs.Trees.{Node, Trees, Tree, pack, size, count_of}
+use Rattle.tree_nodes.specs.Trees.{Tree, pack, size, count_of}
 use Rattle.tree_nodes.specs.Back.{no_tree}
 use Rattle.tree_nodes.specs.Rows.{Row, row_with, picked, tree_over, trees_from, trees_of, tree_of}
-use Rattle.tree_nodes.specs.Kept.{within, name_in, node_in, FitsIn, IsTextIn}
+use Rattle.tree_nodes.specs.Kept.{within, name_in}
 use Rattle.tree_nodes.specs.Built.{row_in, rows_in, RowFits, AreEarlier, sizes_in, total, IsBuilt}
-use Rattle.tree_nodes.proofs.KeptLaws.{map-same, all_of_one, within-append, within-seam, fits-append, text-append, node-kept}
+use Rattle.tree_nodes.proofs.KeptLaws.{map-same, within-append, within-seam, fits-append, text-append, node-kept}
 
 -- ---- trees
 

@@ -1,5 +1,5 @@
 -- The numbers that a walk has left.
-use Rattle.std.proofs.Common.{◌≡◌, ℕ, zero, suc, ◌+◌, ◌-◌, ◌<◌, List, ◌∷◌, refl, sym, ap, ◌∙◌, arith}
+use Rattle.std.proofs.Common.{◌≡◌, ℕ, suc, ◌+◌, ◌-◌, ◌<◌, List, ◌∷◌, sym, ap, ◌∙◌, arith}
 use Rattle.lint_values.specs.declared.place.NodeId.{NodeId}
 use Rattle.tree_nodes.specs.Walked.{ids_from}
 

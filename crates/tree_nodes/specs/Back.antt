@@ -2,10 +2,8 @@
 use Rattle.std.specs.Prelude.{◌≡◌, ℕ, ◌+◌, List, [], ◌∷◌, ◌++◌, Option, Some, None, refl}
 use Rattle.std.proofs.Common.{ap, sym, ◌∙◌, append_assoc}
 use Rattle.std.proofs.lemmas.List.{append-nil}
-use Rattle.lint_values.specs.declared.place.Pos.{Pos}
-use Rattle.tree_nodes.specs.declared.kind.Kind.{Kind}
 use Rattle.tree_nodes.specs.declared.kind.Kind.TheVariants as kinds
-use Rattle.tree_nodes.specs.Trees.{Node, Trees, none, tree, Tree, Entry, entry_of, entries_from, entries_at, entries, numbers, size}
+use Rattle.tree_nodes.specs.Trees.{Node, Trees, none, tree, Tree, Entry, entries_from, entries_at, entries, numbers, size}
 
 -- one tree for each of some numbers
 abbrev pub taken : List ℕ → Trees → Trees

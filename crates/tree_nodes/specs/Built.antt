@@ -1,5 +1,5 @@
 -- The rows of a builder as they are kept.
-use Rattle.std.specs.Prelude.{◌≡◌, ℕ, ◌+◌, ◌<◌, ◌≤◌, ◌^◌, List, [], ◌∷◌, map, length, slice_index, All}
+use Rattle.std.specs.Prelude.{◌≡◌, ℕ, ◌+◌, ◌<◌, List, [], ◌∷◌, map, length, slice_index, All}
 use Rattle.tree_nodes.specs.declared.builder.BuiltRow.{BuiltRow}
 use Rattle.tree_nodes.specs.Trees.{count_of}
 use Rattle.tree_nodes.specs.Rows.{Row, trees_of}

@@ -1,5 +1,5 @@
 -- The rows of a finished tree as they are kept.
-use Rattle.std.specs.Prelude.{◌≡◌, ℕ, ◌+◌, ◌<◌, ◌≤◌, ◌^◌, List, [], ◌∷◌, map, length, All}
+use Rattle.std.specs.Prelude.{◌≡◌, ℕ, ◌<◌, ◌^◌, List, map, length, All}
 use Rattle.lint_values.specs.declared.place.NodeId.{NodeId}
 use Rattle.tree_nodes.specs.declared.tree.TreeRow.{TreeRow}
 use Rattle.tree_nodes.specs.Trees.{Tree, Entry, entries, node_at, parent_at}

@@ -1,5 +1,5 @@
 -- How nodes are kept: all names in one text, all kids in one list, and spans of these.
-use Rattle.std.specs.Prelude.{◌≡◌, ℕ, zero, suc, ◌-◌, ◌≤◌, List, map, length, slice_range, Bool, Option, Some, None, if◌then◌else◌}
+use Rattle.std.specs.Prelude.{ℕ, zero, suc, ◌≤◌, List, slice_range, Option, Some, None, if◌then◌else◌}
 use Rattle.std.specs.Str.{IsCharBoundary}
 use Rattle.lint_values.specs.declared.place.NodeId.{NodeId}
 use Rattle.tree_nodes.specs.declared.label.Label.{Label}

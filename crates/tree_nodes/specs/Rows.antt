@@ -2,7 +2,7 @@
 use Rattle.std.specs.Prelude.{ℕ, List, [], ◌∷◌, ◌++◌, map, slice_index_or, Option}
 use Rattle.lint_values.specs.declared.place.Pos.{Pos}
 use Rattle.tree_nodes.specs.declared.kind.Kind.{Kind}
-use Rattle.tree_nodes.specs.Trees.{Node, Trees, Tree, pack}
+use Rattle.tree_nodes.specs.Trees.{Node, Tree, pack}
 use Rattle.tree_nodes.specs.Back.{no_tree}
 
 -- a node, and the numbers of the rows of its kids

@@ -2,7 +2,7 @@
 use Rattle.std.specs.Prelude.{◌≡◌, List, [], ◌∷◌, ◌++◌, ◌⊎◌}
 use Rattle.tree_nodes.specs.declared.kind.Kind.{Kind}
 use Rattle.tree_nodes.specs.declared.kind.Kind.TheVariants as kinds
-use Rattle.tree_nodes.specs.Sorts.{Sort, statement, elif_clause, else_clause, handler, star_handler, finally_clause, case_clause, decorator, docstring, with_item, annotation, star_annotation, alias, import_wildcard, as_name, declared_name, parameter, positional_only_mark, star_parameter, keyword_only_parameter, double_star_parameter, single_target, name_read, attribute_read, starred, star_argument, keyword_argument, double_star_argument, slice, slice_colon, slices, dict_item, dict_unpack, comprehension_clause, field, comparison_operator, shift_operator, sum_operator, product_operator, pattern, star_pattern, match_item, match_rest, match_keyword, IsOf, AreOf, only, expression, value, target, any_target, compared, augmented_operator}
+use Rattle.tree_nodes.specs.Sorts.{Sort, statement, elif_clause, else_clause, handler, star_handler, finally_clause, case_clause, decorator, docstring, with_item, annotation, star_annotation, alias, import_wildcard, as_name, declared_name, parameter, positional_only_mark, star_parameter, keyword_only_parameter, double_star_parameter, single_target, name_read, attribute_read, star_argument, keyword_argument, double_star_argument, slice, slice_colon, slices, dict_item, dict_unpack, comprehension_clause, field, comparison_operator, shift_operator, sum_operator, product_operator, pattern, star_pattern, match_item, match_rest, match_keyword, IsOf, AreOf, only, expression, value, target, any_target, compared, augmented_operator}
 
 -- ---- parts of a list of kids
 

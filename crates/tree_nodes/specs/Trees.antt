@@ -1,6 +1,6 @@
 -- Syntax trees: each node has a kind, a place, the last of its lines, maybe a name, and its kids in order. The nodes
 -- of a tree are numbered from 0 in preorder.
-use Rattle.std.specs.Prelude.{ℕ, ◌+◌, List, [], ◌∷◌, ◌++◌, length, Option, Some, None, slice_index_or}
+use Rattle.std.specs.Prelude.{ℕ, ◌+◌, List, [], ◌∷◌, ◌++◌, Option, Some, None, slice_index_or}
 use Rattle.lint_values.specs.declared.place.Pos.{Pos}
 use Rattle.tree_nodes.specs.declared.kind.Kind.{Kind}
 

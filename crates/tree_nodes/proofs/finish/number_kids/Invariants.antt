@@ -1,5 +1,4 @@
-use Rattle.std.proofs.Common.{◌≡◌, ◌++◌, map, drop, take, length}
-use Rattle.tree_nodes.specs.Kept.{number_of}
+use Rattle.std.proofs.Common.{drop}
 use Rattle.tree_nodes.specs.Built.{sizes_in}
 use Rattle.tree_nodes.specs.Finishing.{numbers_by, AddsNumbersSoFar}
 use Rattle.tree_nodes.proofs.finish.number_kids.Given as goal

@@ -1,7 +1,7 @@
-use Rattle.std.proofs.Common.{◌≡◌, ℕ, ◌<◌, arith, Some, List, length, sym, ap, subst, ◌∙◌, map}
+use Rattle.std.proofs.Common.{◌≡◌, ◌<◌, arith, Some, List, length, sym, subst}
 use Rattle.lint_values.specs.declared.place.NodeId.{NodeId}
 use Rattle.tree_nodes.specs.Trees.{count_of, parent_at}
-use Rattle.tree_nodes.specs.Kept.{within, number_of, FitsIn}
+use Rattle.tree_nodes.specs.Kept.{FitsIn}
 use Rattle.tree_nodes.proofs.Reading.{count-is, fits-is, kids-is, all_kids, all-of_numbers}
 use Rattle.tree_nodes.proofs.EntryLaws.{kids-behind, kids-made, kids-parent, kids-ascend}
 use Rattle.tree_nodes.proofs.ShapeLaws.{shaped-at}
