@@ -5,7 +5,8 @@ use Rattle.std.proofs.lemmas.List.{length-drop, append_assoc, append-nil}
 use Rattle.fstr_parse.specs.Bytes.{Text}
 use Rattle.fstr_parse.specs.Expressions.{equals_len}
 use Rattle.fstr_parse.specs.Fields.{IsField, behind_equals, conversion_len, closing_of}
-use Rattle.fstr_parse.specs.Parts.{IsPart, Cuts, part_len, depth_behind, HoldsExpression}
+use Rattle.fstr_parse.specs.Parts.{IsPart, Cuts, part_len, depth_behind}
+use Rattle.fstr_parse.specs.Scan.{HoldsExpression}
 use Rattle.fstr_parse.specs.Pieces.{piece_of, pieces_of}
 use Rattle.fstr_parse.specs.declared.field.Field.{Field}
 use Rattle.fstr_parse.specs.declared.part.Part.{Part}

@@ -1,5 +1,5 @@
 -- What stands at a place: the end, a part, or a fault; and that it is one of them alone.
-use Rattle.std.proofs.Common.{◌≡◌, ◌≢◌, ℕ, zero, suc, ◌+◌, ◌-◌, ◌≤◌, ◌<◌, ◌⊎◌, inr, Bool, true, false, ◌&&◌, ◌==◌, leb, ltb, cond, [], length, drop, refl, sym, ap, ◌∙◌, subst, arith, ⊎_elim}
+use Rattle.std.proofs.Common.{◌≡◌, ◌≢◌, ℕ, zero, suc, ◌+◌, ◌-◌, ◌≤◌, ◌<◌, inr, Bool, true, false, ◌&&◌, ◌==◌, leb, ltb, cond, [], length, drop, refl, sym, ap, ◌∙◌, subst, arith, ⊎_elim}
 use Rattle.std.proofs.lemmas.Bool.{cond_both, eqb-true, eq-eqb, ne_eqb, cond-true, cond-false, cases_Bool, le-leb, lt-leb, and_from, and_left, lt-ltb, le-ltb}
 use Rattle.std.specs.List.{prefix_len}
 use Rattle.std.proofs.lemmas.List.{length-drop}

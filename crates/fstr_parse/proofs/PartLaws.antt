@@ -1,5 +1,5 @@
 -- Parts: what stands where no literal text does, how long a part is, and that a place has one part or one fault.
-use Rattle.std.proofs.Common.{◌≡◌, ◌≢◌, ℕ, ◌+◌, ◌-◌, ◌≤◌, ◌<◌, ◌⊎◌, inr, Bool, true, false, ◌&&◌, ◌||◌, ◌==◌, min, cond, length, drop, refl, sym, ap, ◌∙◌, subst, arith, ⊎_elim}
+use Rattle.std.proofs.Common.{◌≡◌, ◌≢◌, ℕ, ◌+◌, ◌≤◌, ◌<◌, inr, Bool, true, false, ◌&&◌, ◌||◌, ◌==◌, min, cond, length, drop, refl, sym, ap, ◌∙◌, subst, arith, ⊎_elim}
 use Rattle.std.proofs.lemmas.Bool.{cond_both, eqb-true, or_cases, ne_eqb, both_ways, cond-false, cases_Bool}
 use Rattle.std.specs.List.{prefix_len}
 use Rattle.fstr_parse.specs.Bytes.{Text, byte, is_brace}

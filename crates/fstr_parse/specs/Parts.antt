@@ -55,9 +55,3 @@ IsFaultAt depth text stop Memory = ⊥
 -- the f-string ends here
 abbrev pub IsOver : ℕ → Text → Type 0
 IsOver depth text = (depth ≡ 0) × (text ≡ [])
-
--- a field's head is longer than its expression
-abbrev pub HoldsExpression : Part → Type 0
-HoldsExpression (Literal len) = Unit {0}
-HoldsExpression (Head field) = field.expression < field.len
-HoldsExpression FormatEnd = Unit {0}

@@ -4,6 +4,8 @@ use Rattle.std.specs.Prelude.{◌≡◌, ℕ, zero, suc, ◌+◌, ◌≤◌, ◌
 use Rattle.std.specs.List.{prefix_len}
 use Rattle.fstr_parse.specs.Bytes.{Text, byte, is_brace, is_quote}
 use Rattle.fstr_parse.specs.Literals.{is_in_name, names_character, same_depth}
+use Rattle.fstr_parse.specs.declared.part.Part.{Part}
+use Rattle.fstr_parse.specs.declared.part.Part.TheVariants.{Literal, Head, FormatEnd}
 use Rattle.fstr_parse.specs.Expressions.{is_end, quotes_len, are_quotes, ends_at, brackets_behind}
 
 -- so many steps lead from the text to the rest; a step is as long as `len` says of the place where it begins
@@ -71,3 +73,9 @@ pub record HaltRow (text stop : Text) : Type 0 where
   pub halts : step_len brackets rest ≡ 0
   pub unended : ends_at brackets rest ≡ false
   pub here : stop ≡ drop (opened_len rest) rest
+
+-- a field's head is longer than its expression
+abbrev pub HoldsExpression : Part → Type 0
+HoldsExpression (Literal len) = Unit {0}
+HoldsExpression (Head field) = field.expression < field.len
+HoldsExpression FormatEnd = Unit {0}

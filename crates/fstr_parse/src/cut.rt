@@ -1,5 +1,5 @@
 // A whole f-string, cut.
-ghost use Rattle.std.specs.Prelude.{◌≡◌, ◌≢◌, ◌<◌, ◌^◌, length, List, ℕ, IfOk, IfErr};
+ghost use Rattle.std.specs.Prelude.{◌≢◌, ◌<◌, ◌^◌, length, List, ℕ, IfOk, IfErr};
 ghost use Rattle.fstr_parse.specs.Pieces.{IsCut, IsFirstFault, IsInOrder};
 ghost use Rattle.fstr_parse.specs.Answers.{GivesOnly, FaultsOnly};
 ghost use Rattle.fstr_parse.specs.declared.piece.Piece.{Piece};

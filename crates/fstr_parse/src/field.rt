@@ -1,5 +1,5 @@
 // The heads of fields.
-ghost use Rattle.std.specs.Prelude.{◌≡◌, ◌+◌, ◌≤◌, length, MatchResult, drop, List, ℕ};
+ghost use Rattle.std.specs.Prelude.{◌≡◌, MatchResult, List, ℕ};
 ghost use Rattle.fstr_parse.specs.Fields.{IsField, IsBadField};
 ghost use Rattle.fstr_parse.specs.Heads.{wrong_at, IsConversion, IsWrongConversion};
 

@@ -1,5 +1,5 @@
 // Literal parts.
-ghost use Rattle.std.specs.Prelude.{◌≡◌, ◌+◌, ◌<◌, ◌≤◌, length};
+ghost use Rattle.std.specs.Prelude.{◌≡◌, ◌<◌, ◌≤◌, length};
 ghost use Rattle.std.specs.List.{prefix_len};
 ghost use Rattle.fstr_parse.specs.Scan as spec;
 ghost use Rattle.fstr_parse.specs.Literals.{IsLiteral, is_in_name, names_character};

@@ -1,7 +1,8 @@
 // The parts of an f-string.
-ghost use Rattle.std.specs.Prelude.{◌≡◌, ◌≤◌, ◌<◌, ◌+◌, ◌^◌, ◌++◌, length, drop, List, ℕ, OnOk, OnErr, MatchResult, MatchOption};
+ghost use Rattle.std.specs.Prelude.{◌≡◌, ◌<◌, ◌+◌, ◌^◌, ◌++◌, List, ℕ, OnOk, OnErr, MatchResult, MatchOption};
 ghost use Rattle.fstr_parse.specs.Parts as spec;
-ghost use Rattle.fstr_parse.specs.Parts.{IsPart, IsOver, IsFaultAt, HoldsExpression};
+ghost use Rattle.fstr_parse.specs.Parts.{IsPart, IsOver, IsFaultAt};
+ghost use Rattle.fstr_parse.specs.Scan.{HoldsExpression};
 ghost use Rattle.fstr_parse.specs.Pieces.{piece_of};
 
 use crate::field::{Field, field_at};

@@ -1,4 +1,4 @@
-use Rattle.std.proofs.Common.{◌≡◌, ◌+◌, ◌-◌, ◌≤◌, length}
+use Rattle.std.proofs.Common.{◌≡◌, ◌+◌, ◌≤◌, length}
 use Rattle.fstr_parse.specs.Scan.{body_len}
 use Rattle.fstr_parse.proofs.expression.body_len.Given as goal
 
