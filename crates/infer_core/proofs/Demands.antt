@@ -70,9 +70,11 @@ module _ (count limit : ℕ) (right : ℕ → Assignment → Set) (reads : ℕ �
 
   -- two right tables, and none in progress
   pub least_before : (base own b o : Map) → IsRight count limit right base → IsRight count limit right own → b ≡ overlaid base own → o ≡ empty → AllLeast count limit right (b, o)
-  least_before base own b o r q be oe = record { at = λ v s e.
-    either_right (get base v) (get own v) (low v) s (r.at v) (q.at v)
-      (sym (get-overlaid base own v) ∙ ap (λ m. get m v) (sym be) ∙ sym (either_none (get b v)) ∙ sym (found-empty b o v oe) ∙ e) }
+  least_before base own b o r q be oe = record {
+    at = λ v s e.
+        either_right (get base v) (get own v) (low v) s (r.at v) (q.at v)
+        (sym (get-overlaid base own v) ∙ ap (λ m. get m v) (sym be) ∙ sym (either_none (get b v)) ∙ sym (found-empty b o v oe) ∙ e);
+  }
 
   module _ (base own b work : Map) (start : ℕ) (run : List ℕ) (be : b ≡ overlaid base own) (h : IsListed low reads b work (start ∷ []) run) where
     pub run_apart : (v : ℕ) → Contains run v → get own v ≡ None
@@ -112,7 +114,7 @@ module _ (count limit : ℕ) (right : ℕ → Assignment → Set) (reads : ℕ �
     adds_after new e has none = record {
       keeps = λ w s f. keeps_by new e w s (get work w) refl f;
       reached = λ w g. subst (λ m. Lacking low reads m (start ∷ []) w) be (h.lacking w (h.stored w (gained_work new e w g)));
-      has = start_has new e has none
+      has = start_has new e has none;
     }
 
     pub cheap_after : (new : Map) → new ≡ overlaid work own → (before after : ℕ) → IsCheap limit low reads (λ v. IsSome (get work v)) before after → IsCheap limit low reads (Gained own new) before after
@@ -129,20 +131,28 @@ module _ (count limit : ℕ) (right : ℕ → Assignment → Set) (reads : ℕ �
     pub demanded_after : {T F : Type 0} (r : Result T F) (new : Map) (before after : ℕ) → get (overlaid base own) start ≡ None → HasSet (b, work) start → OnOk r (new ≡ overlaid work own) → OnErr r (new ≡ own)
         → IsCheap limit low reads (λ v. IsSome (get work v)) before after → IsDemanded limit low reads base own new start before after r
     demanded_after (Ok x) new before after missing has ok err c = record {
-      adds = adds_after new ok has (ap (λ m. get m start) be ∙ missing); same = tt; cheap = cheap_after new ok before after c; cheap_err = tt;
-      none_again = λ h. absurd (is_not (get (overlaid base own) start) missing h)
+      adds = adds_after new ok has (ap (λ m. get m start) be ∙ missing);
+      same = tt;
+      cheap = cheap_after new ok before after c;
+      cheap_err = tt;
+      none_again = λ h. absurd (is_not (get (overlaid base own) start) missing h);
     }
     demanded_after (Err x) new before after missing has ok err c = record {
-      adds = tt; same = err; cheap = tt; cheap_err = cheap_lacking before after c;
-      none_again = λ h. absurd (is_not (get (overlaid base own) start) missing h)
+      adds = tt;
+      same = err;
+      cheap = tt;
+      cheap_err = cheap_lacking before after c;
+      none_again = λ h. absurd (is_not (get (overlaid base own) start) missing h);
     }
 
   -- the worklist was refused
   pub demanded_err : {T F : Type 0} (x : F) (base own b : Map) (start before after : ℕ) → b ≡ overlaid base own → get (overlaid base own) start ≡ None → IsCheap limit low reads (Lacking low reads b (start ∷ [])) before after → IsDemanded {T = T} limit low reads base own own start before after (Err x)
   demanded_err x base own b start before after be missing c = record {
-    adds = tt; same = refl; cheap = tt;
+    adds = tt;
+    same = refl;
+    cheap = tt;
     cheap_err = subst (λ m. IsCheap limit low reads (Lacking low reads m (start ∷ [])) before after) be c;
-    none_again = λ h. absurd (is_not (get (overlaid base own) start) missing h)
+    none_again = λ h. absurd (is_not (get (overlaid base own) start) missing h);
   }
 
 -- an answer of another type says the same
