@@ -1,1 +1,2 @@
 pub mod RightTables
+pub mod Demands

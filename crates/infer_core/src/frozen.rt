@@ -1,6 +1,8 @@
 // Solved sets that several solvers share.
-ghost use Rattle.std.specs.Prelude.{◌≡◌, option_copied};
+ghost use Rattle.std.specs.Prelude.{◌≡◌, ℕ, option_copied};
 ghost use Rattle.std.specs.FinMap as map;
+ghost use Rattle.infer_sets.specs.Sets.{Set};
+ghost use Rattle.infer_core.specs.Right.{IsRight};
 
 use infer_equations::Table;
 use infer_sets::AbsSet;
@@ -28,7 +30,8 @@ impl Model for Frozen {
 impl Frozen {
     /// The table with no variable: it is right for all equations.
     pub fn empty(alloc: Global) -> Frozen
-        ensures { result ≡ record { sets = map.empty; again = 0 } }
+        ensures none { result ≡ record { sets = map.empty; again = 0 } }
+        ensures right { (count limit : ℕ) (right : ℕ → (ℕ → Set) → Set) → IsRight count limit right result.sets }
     {
         Frozen {
             table: Table::new(alloc),
@@ -41,5 +44,11 @@ impl Frozen {
         ensures { option_copied result ≡ map.get self.now.sets var }
     {
         self.table.find(var)
+    }
+
+    pub(crate) fn table(&self) -> &Table
+        ensures { result.now ≡ self.now.sets }
+    {
+        &self.table
     }
 }

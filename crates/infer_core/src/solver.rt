@@ -1,19 +1,20 @@
 // A solver that keeps what it solved.
-ghost use Rattle.std.specs.Prelude.{◌≡◌, ℕ, ◌<◌, IfOk, IfSome, OnOk, Some, None, IsSome, is_some, option_copied};
+ghost use Rattle.std.specs.Prelude.{◌≡◌, ℕ, ◌<◌, IfOk, OnOk, OnErr, None, IsSome, option_copied};
 ghost use Rattle.std.specs.FinMap as map;
 ghost use Rattle.infer_equations.specs.Least.{least};
-ghost use Rattle.infer_equations.specs.Assignment.{either};
+ghost use Rattle.infer_equations.specs.Assignment.{overlaid};
 ghost use Rattle.infer_core.specs.Right.{IsRight, IsRight-prop};
+ghost use Rattle.infer_core.specs.Demand.{IsDemanded};
 
 use crate::frozen::Frozen;
-use infer_equations::{Equations, Steps, Table};
-use infer_plain::Plain;
+use infer_equations::{Equations, Solved, Steps, Table};
+use infer_lazy::{keep_all, work_through};
 use infer_sets::AbsSet;
 use lint_values::Memory;
 use std::alloc::Global;
 use std::sync::ledger::Ledger;
 
-/// A solver of equations, over a frozen table that is right for them. It keeps the sets that it solved.
+/// A solver of equations, over a frozen table that is right for them. It keeps the sets that it solved in a table of its own.
 #[derive(Drop)]
 pub struct Solver<'a, E: Equations> {
     alloc: Global,
@@ -41,11 +42,24 @@ impl<'a, E: Equations> Solver<'a, E> {
     }
 
     fn known(&self, var: u64) -> Option<&AbsSet>
-        ensures { option_copied result ≡ either (map.get self.now.base.now.sets var) (map.get self.now.own var) }
+        ensures { option_copied result ≡ map.get (overlaid self.now.base.now.sets self.now.own) var }
     {
-        match self.base.get(var) {
-            Some(set) => Some(set),
-            None => self.own.find(var),
+        Solved::new(self.base.table(), &self.own).find(var)
+    }
+
+    // Solves a variable that no table has.
+    fn solve<L: Ledger>(&mut self, var: u64, steps: &mut Steps<L>) -> Result<(), Memory>
+        requires in_range { var < E.count_of self.old.eqs.now }
+        requires missing { map.get (overlaid self.old.base.now.sets self.old.own) var ≡ None }
+        ensures equations { self.new.eqs ≡ self.old.eqs }
+        ensures base { self.new.base ≡ self.old.base }
+        ensures demanded { IsDemanded (E.limit_of self.old.eqs.now) (least (E.count_of self.old.eqs.now) (E.limit_of self.old.eqs.now) (E.right self.old.eqs.now)) (E.reads self.old.eqs.now) self.old.base.now.sets self.old.own self.new.own var steps.old steps.new result }
+    {
+        let mut work = Table::new(self.alloc);
+        let base = Solved::new(self.base.table(), &self.own);
+        match work_through(self.alloc, self.eqs, &base, &mut work, var, steps) {
+            Err(memory) => Err(memory),
+            Ok(reached) => keep_all(&mut self.own, &mut work, &reached),
         }
     }
 
@@ -53,13 +67,12 @@ impl<'a, E: Equations> Solver<'a, E> {
         requires { var < E.count_of self.old.eqs.now }
         ensures equations { self.new.eqs ≡ self.old.eqs }
         ensures base { self.new.base ≡ self.old.base }
-        ensures here { OnOk result (IsSome (either (map.get self.new.base.now.sets var) (map.get self.new.own var))) }
+        ensures demanded { IsDemanded (E.limit_of self.old.eqs.now) (least (E.count_of self.old.eqs.now) (E.limit_of self.old.eqs.now) (E.right self.old.eqs.now)) (E.reads self.old.eqs.now) self.old.base.now.sets self.old.own self.new.own var steps.old steps.new result }
     {
-        if self.known(var).is_none() {
-            let set = Plain::solve(self.alloc, self.eqs, var, steps)?;
-            self.own.put(var, set)?;
+        if self.known(var).is_some() {
+            return Ok(());
         }
-        Ok(())
+        self.solve(var, steps)
     }
 }
 
@@ -69,19 +82,22 @@ impl<'a, E: Equations> Solver<'a, E> {
     ghost use Rattle.infer_equations.specs.Least.{least};
     ghost use mathlib.Core.Option as maybe;
     ghost use mir.Syntax.{named};
+    ghost use Rattle.infer_core.specs.Demand.{IsDemanded};
     ghost use Rattle.infer_core.specs.contracts.solver.Solver.{the_row};
 
     /// The set of a variable in the least solution, whatever was demanded before. What was solved stays solved, also where
-    /// memory runs out.
+    /// memory runs out, and the solver may be asked again.
     pub fn demand<L: Ledger>(&mut self, var: u64, steps: &mut Steps<L>) -> Result<&AbsSet, Memory>
         requires { var < E.count_of self.old.eqs.now }
         ensures value { IfOk result (λ s. s.now ≡ least (E.count_of self.old.eqs.now) (E.limit_of self.old.eqs.now) (E.right self.old.eqs.now) var) }
-        ensures* after { sem 𝓛 (follows_so (the_row (record { mir = named 1; lft = [] }) E.row E.Equations) (the_row (record { mir = named 1; lft = [] }) E.row E.Equations) self.entry.ghost_name maybe.none (λ _ _. ⊤) (λ v. (v.eqs ≡ self.old.eqs) × (v.base ≡ self.old.base))) }
+        ensures* after { sem 𝓛 (follows_so (the_row (record { mir = named 1; lft = [] }) E.row E.Equations) (the_row (record { mir = named 1; lft = [] }) E.row E.Equations) self.entry.ghost_name maybe.none (λ _ _. ⊤) (λ v. (v.eqs ≡ self.old.eqs) × (v.base ≡ self.old.base) × IsDemanded (E.limit_of self.old.eqs.now) (least (E.count_of self.old.eqs.now) (E.limit_of self.old.eqs.now) (E.right self.old.eqs.now)) (E.reads self.old.eqs.now) self.old.base.now.sets self.old.own v.own var steps.old steps.new result)) }
     {
-        self.settle(var, steps)?;
-        match self.known(var) {
-            Some(set) => Ok(set),
-            None => unreachable!(),
+        match self.settle(var, steps) {
+            Err(memory) => Err(memory),
+            Ok(()) => match self.known(var) {
+                Some(set) => Ok(set),
+                None => unreachable!(),
+            },
         }
     }
 }

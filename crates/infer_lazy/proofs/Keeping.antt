@@ -54,12 +54,12 @@ none_by false x e = e
 pub moved-more : (work own : Map) (run : List ℕ) (i v : ℕ) (w o w' o' : Map) → Moved work own run i w o → v ≡ get_or run i 0 → o' ≡ kept_by (get w v) v o → w' ≡ remove w v → Moved work own run (i + 1) w' o'
 moved-more work own run i v w o w' o' m at oe we = record {
   both = λ q. ap (λ y. either (get y q) (get o' q)) we ∙ ap (λ y. either (get (remove w v) q) (get y q)) oe
-    ∙ ap (λ y. either y (get (kept_by (get w v) v o) q)) (get-taken w v q) ∙ both_at v (get w v) w o refl q (q == v) refl ∙ m.both q;
+      ∙ ap (λ y. either y (get (kept_by (get w v) v o) q)) (get-taken w v q) ∙ both_at v (get w v) w o refl q (q == v) refl ∙ m.both q;
   gone = below_more (λ k. get w' (get_or run k 0) ≡ None) i
-    (λ k l. ap (λ y. get y (get_or run k 0)) we ∙ get-taken w v (get_or run k 0) ∙ none_by (get_or run k 0 == v) _ (m.gone k l))
-    (ap (λ y. get y (get_or run i 0)) we ∙ get-taken w v (get_or run i 0) ∙ ap (λ c. cond c None (get w (get_or run i 0))) (ap (λ z. get_or run i 0 == z) at ∙ test_itself (get_or run i 0)));
+      (λ k l. ap (λ y. get y (get_or run k 0)) we ∙ get-taken w v (get_or run k 0) ∙ none_by (get_or run k 0 == v) _ (m.gone k l))
+      (ap (λ y. get y (get_or run i 0)) we ∙ get-taken w v (get_or run i 0) ∙ ap (λ c. cond c None (get w (get_or run i 0))) (ap (λ z. get_or run i 0 == z) at ∙ test_itself (get_or run i 0)));
   never = λ q e. ap (λ y. get y q) we ∙ get-taken w v q ∙ none_by (q == v) _ (m.never q e);
-  others = λ q e. ap (λ y. get y q) oe ∙ other_at v (get w v) w o refl q (m.never q e) (q == v) refl ∙ m.others q e
+  others = λ q e. ap (λ y. get y q) oe ∙ other_at v (get w v) w o refl q (m.never q e) (q == v) refl ∙ m.others q e;
 }
 
 at_place : (run : List ℕ) (v k : ℕ) → k < length run → get_or run k v ≡ v → get_or run k 0 ≡ v
@@ -91,9 +91,9 @@ any_in q [] c = absurd (let l = c.1 in omega arith)
 any_in q (k ∷ ks) (zero, l, e) = ap (λ z. nat_eq q z || list_any (nat_eq q) ks) e ∙ ap (λ b. b || list_any (nat_eq q) ks) (test_itself q)
 any_in q (k ∷ ks) (suc n, l, e) = later (nat_eq q k) _ (any_in q ks (n, omega arith, e))
   where
-  later : (a b : Bool) → b ≡ true → (a || b) ≡ true
-  later true b h = refl
-  later false b h = h
+    later : (a b : Bool) → b ≡ true → (a || b) ≡ true
+    later true b h = refl
+    later false b h = h
 
 -- those that were moved are taken out
 pub moved-back : (work own : Map) (run : List ℕ) (i : ℕ) (w o o' : Map) → ((v : ℕ) → Contains run v → get own v ≡ None) → ((v : ℕ) → IsSome (get work v) → Contains run v)

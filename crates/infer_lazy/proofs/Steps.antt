@@ -63,7 +63,7 @@ pub same_pair-equiv : IsEquivalence same_pair
 same_pair-equiv = record {
   refl = same_itself;
   symm = λ p q. symm_by p q (same_pair p q) (same_pair q p) refl refl;
-  congr = λ p q r e. same_left p q r (same_pair p q) refl e
+  congr = λ p q r e. same_left p q r (same_pair p q) refl e;
 }
 
 -- what the loop over the variables that were read adds
@@ -95,23 +95,28 @@ is_none (Some s) e h = absurd (let p = e in cc)
 -- one more pair, or none
 pub with_one : (o : Map) (v w : ℕ) (ps : List (ℕ × ℕ)) (x : Option Set) → get o w ≡ x → (c : Bool) → list_any (same_pair (v, w)) ps ≡ c → Paired o v (w ∷ []) ps (with_pair x v w ps)
 with_one o v w ps None e c a = record {
-  more = []; is = sym (append-nil ps); new = λ u z h. inl h;
+  more = [];
+  is = sym (append-nil ps);
+  new = λ u z h. inl h;
   has = λ z d h. elim (cons-cases w [] z d) [ inl is ↦ absurd (is_none (get o w) e (subst (λ y. IsSome (get o y)) (sym is) h)) | inr n ↦ absurd (let l = n.1 in omega arith) ];
-  apart = λ d. d
+  apart = λ d. d;
 }
 with_one o v w ps (Some s) e true a = subst (λ qs. Paired o v (w ∷ []) ps qs) (sym (ap (λ c. cond c ps (ps ++ (v, w) ∷ [])) a)) (record {
-  more = []; is = sym (append-nil ps); new = λ u z h. inl h;
+  more = [];
+  is = sym (append-nil ps);
+  new = λ u z h. inl h;
   has = λ z d h. elim (cons-cases w [] z d) [ inl is ↦ subst (λ y. Contains ps (v, y)) is (any_pair (v, w) ps a) | inr n ↦ absurd (let l = n.1 in omega arith) ];
-  apart = λ d. d
+  apart = λ d. d;
 })
 with_one o v w ps (Some s) e false a = subst (λ qs. Paired o v (w ∷ []) ps qs) (sym (ap (λ c. cond c ps (ps ++ (v, w) ∷ [])) a)) (record {
-  more = (v, w) ∷ []; is = refl;
+  more = (v, w) ∷ [];
+  is = refl;
   new = λ u z h. elim (Contains-push_cases ps (v, w) (u, z) h) [
     | inl d ↦ inl d
     | inr is ↦ inr (ap (λ (p : ℕ × ℕ). p.0) (sym is), subst (λ (y : ℕ). Contains (w ∷ []) y) (ap (λ (p : ℕ × ℕ). p.1) is) (head-in w []), ap (λ (p : ℕ × ℕ). is_some (get o p.1)) (sym is) ∙ some_at (get o w) s e)
   ];
   has = λ z d h. elim (cons-cases w [] z d) [ inl is ↦ subst (λ y. Contains (ps ++ (v, w) ∷ []) (v, y)) is (Contains-push ps (v, w)) | inr n ↦ absurd (let l = n.1 in omega arith) ];
-  apart = λ d. IsDistinct-push same_pair-equiv ps (v, w) d a
+  apart = λ d. IsDistinct-push same_pair-equiv ps (v, w) d a;
 })
 
 pub paired-all : (o : Map) (v : ℕ) (ws : List ℕ) (ps : List (ℕ × ℕ)) → Paired o v ws ps (paired o v ws ps)
@@ -131,7 +136,7 @@ paired-all o v (w ∷ ws) ps =
         | inl is ↦ subst (λ qs. Contains qs (v, z)) (sym rest.is) (Contains-append_left m rest.more (v, z) (one.has z (subst (λ y. Contains (w ∷ []) y) is (head-in w [])) h))
         | inr d ↦ rest.has z d h
       ];
-      apart = λ d. rest.apart (one.apart d)
+      apart = λ d. rest.apart (one.apart d);
     }
 
 has_by : (v u : ℕ) (p : ℕ × ℕ) (ps : List (ℕ × ℕ)) (c : Bool) → (p.1 == v) ≡ c → (p ≡ (u, v)) ⊎ Contains ps (u, v) → (Contains ps (u, v) → Contains (readers v ps) u) → Contains (cond c (p.0 ∷ readers v ps) (readers v ps)) u
@@ -142,9 +147,9 @@ has_by v u p ps false e (inr d) more = more d
 
 in_by : (v u : ℕ) (p : ℕ × ℕ) (ps : List (ℕ × ℕ)) (c : Bool) → (p.1 == v) ≡ c → Contains (cond c (p.0 ∷ readers v ps) (readers v ps)) u → (Contains (readers v ps) u → Contains ps (u, v)) → Contains (p ∷ ps) (u, v)
 in_by v u p ps true e h more = elim (cons-cases p.0 (readers v ps) u h) [
-    | inl is ↦ subst (λ (x : ℕ × ℕ). Contains (p ∷ ps) x) (let a = test_same p.1 v e in λ i. (is i, a i)) (head-in p ps)
-    | inr d ↦ tail-in p ps (u, v) (more d)
-  ]
+  | inl is ↦ subst (λ (x : ℕ × ℕ). Contains (p ∷ ps) x) (let a = test_same p.1 v e in λ i. (is i, a i)) (head-in p ps)
+  | inr d ↦ tail-in p ps (u, v) (more d)
+]
 in_by v u p ps false e h more = tail-in p ps (u, v) (more h)
 
 cost_by : (v : ℕ) (f g : ℕ → ℕ) (p : ℕ × ℕ) (ps : List (ℕ × ℕ)) (c : Bool) → (p.1 == v) ≡ c → ((w : ℕ) → f w ≤ g w) → f v < g v → sum_by (λ p. f p.1) ps + length (readers v ps) ≤ sum_by (λ p. g p.1) ps
@@ -227,10 +232,10 @@ module _ (count limit : ℕ) (right : ℕ → Assignment → Set) (reads : ℕ �
     same_back : (read : List ℕ) → (assigned (b, o) v ≡ s) ⊎ (Contains read v → ⊥) → (p : Assignment) → Agree read (assigned (b, o')) p → Agree read (assigned (b, o)) p
     same_back read why p same = record { at = λ z c. back_by z (z == v) refl why c ∙ same.at z c }
       where
-      back_by : (z : ℕ) (c : Bool) → (z == v) ≡ c → (assigned (b, o) v ≡ s) ⊎ (Contains read v → ⊥) → Contains read z → assigned (b, o) z ≡ assigned (b, o') z
-      back_by z true e (inl stays) d = ap (λ x. assigned (b, o) x) (test_same z v e) ∙ stays ∙ sym a.itself ∙ ap (λ x. assigned (b, o') x) (sym (test_same z v e))
-      back_by z true e (inr never) d = absurd (never (subst (λ x. Contains read x) (test_same z v e) d))
-      back_by z false e why d = sym (a.others z (apart_from z v e))
+        back_by : (z : ℕ) (c : Bool) → (z == v) ≡ c → (assigned (b, o) v ≡ s) ⊎ (Contains read v → ⊥) → Contains read z → assigned (b, o) z ≡ assigned (b, o') z
+        back_by z true e (inl stays) d = ap (λ x. assigned (b, o) x) (test_same z v e) ∙ stays ∙ sym a.itself ∙ ap (λ x. assigned (b, o') x) (sym (test_same z v e))
+        back_by z true e (inr never) d = absurd (never (subst (λ x. Contains read x) (test_same z v e) d))
+        back_by z false e why d = sym (a.others z (apart_from z v e))
 
     -- v did not have s before: then it waits, or it did not read itself
     known_v : Contains waits v ⊎ Known right (b, o') q.1 qs v (assigned (b, o') v)
@@ -242,15 +247,16 @@ module _ (count limit : ℕ) (right : ℕ → Assignment → Set) (reads : ℕ �
       ]
     ]
       where
-      stored_some : (z : ℕ) → Contains q.1 z → IsSome (get q.0 z)
-      stored_some z c = own_has count limit right mono fits b q.0 q.1 z w.progress c
-      it : (assigned (b, o) v ≡ s) ⊎ (Contains noted v → ⊥) → Known right (b, o') q.1 qs v (assigned (b, o') v)
-      it why = record {
-        read = noted;
-        there = λ z c. a.keeps z (w.has z c);
-        again = λ p same. r.local p (same_back noted why p same) ∙ sym a.itself;
-        paired = λ z c d. ps.has z c (stored_some z d)
-      }
+        stored_some : (z : ℕ) → Contains q.1 z → IsSome (get q.0 z)
+        stored_some z c = own_has count limit right mono fits b q.0 q.1 z w.progress c
+
+        it : (assigned (b, o) v ≡ s) ⊎ (Contains noted v → ⊥) → Known right (b, o') q.1 qs v (assigned (b, o') v)
+        it why = record {
+          read = noted;
+          there = λ z c. a.keeps z (w.has z c);
+          again = λ p same. r.local p (same_back noted why p same) ∙ sym a.itself;
+          paired = λ z c d. ps.has z c (stored_some z d);
+        }
 
     known_other : (u : ℕ) → (u ≡ v → ⊥) → Contains run u → Contains waits u ⊎ Known right (b, o') q.1 qs u (assigned (b, o') u)
     known_other u apart c = elim (h.known u c) [
@@ -264,16 +270,17 @@ module _ (count limit : ℕ) (right : ℕ → Assignment → Set) (reads : ℕ �
       ]
     ]
       where
-      in_run : (z : ℕ) → HasSet (b, o) z → Contains run z ⊎ Contains w.more z → Contains run z
-      in_run z has (inl d) = d
-      in_run z has (inr d) = absurd (none_some (found (b, o) z) has.0 (w.new z d) has.1)
-      it : (k : Known right (b, o) run pairs u (assigned (b, o) u)) → (assigned (b, o) v ≡ s) ⊎ (Contains k.read v → ⊥) → Known right (b, o') q.1 qs u (assigned (b, o') u)
-      it k why = record {
-        read = k.read;
-        there = λ z d. a.keeps z (w.keeps z (k.there z d));
-        again = λ p same. k.again p (same_back k.read why p same) ∙ sym (a.others u apart);
-        paired = λ z d e. old_pair u z (k.paired z d (in_run z (k.there z d) (split z e)))
-      }
+        in_run : (z : ℕ) → HasSet (b, o) z → Contains run z ⊎ Contains w.more z → Contains run z
+        in_run z has (inl d) = d
+        in_run z has (inr d) = absurd (none_some (found (b, o) z) has.0 (w.new z d) has.1)
+
+        it : (k : Known right (b, o) run pairs u (assigned (b, o) u)) → (assigned (b, o) v ≡ s) ⊎ (Contains k.read v → ⊥) → Known right (b, o') q.1 qs u (assigned (b, o') u)
+        it k why = record {
+          read = k.read;
+          there = λ z d. a.keeps z (w.keeps z (k.there z d));
+          again = λ p same. k.again p (same_back k.read why p same) ∙ sym (a.others u apart);
+          paired = λ z d e. old_pair u z (k.paired z d (in_run z (k.there z d) (split z e)));
+        }
 
     known_all : (u : ℕ) → (c : Bool) → (u == v) ≡ c → Contains run u ⊎ Contains w.more u → Contains waits u ⊎ Known right (b, o') q.1 qs u (assigned (b, o') u)
     known_all u c e (inr d) = inl (a.more_waits u d)
@@ -303,19 +310,19 @@ module _ (count limit : ℕ) (right : ℕ → Assignment → Set) (reads : ℕ �
       pairs_in = λ u z c. pairs_all u z (ps.new u z c);
       reached = λ u c. reached_all u (split u c);
       distinct = w.apart h.distinct;
-      apart = ps.apart h.apart
+      apart = ps.apart h.apart;
     }
 
   -- nothing waits: each set is that of the least solution
   pub lazy_done : (o : Map) (run : List ℕ) (pairs : List (ℕ × ℕ)) → Lazy count limit right reads b o starts run [] pairs → AllLeast count limit right (b, o)
   lazy_done o run pairs h = record { at = settled_is_least count limit right mono fits (b, o) h.progress.within (λ v s e. settled v s e (h.progress.listed v s e)) }
     where
-    settled : (v : ℕ) (s : Set) → found (b, o) v ≡ Some s → (s ≡ least count limit right v) ⊎ Contains run v → IsSettled right (least count limit right) (b, o) v s
-    settled v s e (inl is) = inl is
-    settled v s e (inr c) = elim (h.known v c) [
-      | inl wait ↦ absurd (let l = wait.1 in omega arith)
-      | inr k ↦ inr (record { read = k.read; there = k.there; again = λ p same. k.again p same ∙ assigned_at (b, o) v s e })
-    ]
+      settled : (v : ℕ) (s : Set) → found (b, o) v ≡ Some s → (s ≡ least count limit right v) ⊎ Contains run v → IsSettled right (least count limit right) (b, o) v s
+      settled v s e (inl is) = inl is
+      settled v s e (inr c) = elim (h.known v c) [
+        | inl wait ↦ absurd (let l = wait.1 in omega arith)
+        | inr k ↦ inr (record { read = k.read; there = k.there; again = λ p same. k.again p same ∙ assigned_at (b, o) v s e })
+      ]
 
 module _ (count limit : ℕ) (right : ℕ → Assignment → Set) (reads : ℕ → Assignment → List ℕ) (mono : Monotone count right) (fits : Limited count limit right) (b : Map) (starts : List ℕ)
     (o : Map) (run : List ℕ) (pairs : List (ℕ × ℕ)) (h : Lazy count limit right reads b o starts run [] pairs) where
@@ -330,7 +337,7 @@ module _ (count limit : ℕ) (right : ℕ → Assignment → Set) (reads : ℕ �
   supported_by v c (inr k) = record {
     rests = k.read;
     there = k.there;
-    again = λ q same. k.again q (record { at = λ w d. least_at w (k.there w d) ∙ same.at w d }) ∙ least_at v (h.progress.there v c)
+    again = λ q same. k.again q (record { at = λ w d. least_at w (k.there w d) ∙ same.at w d }) ∙ least_at v (h.progress.there v c);
   }
 
   -- nothing waits: each variable rests on what it read
@@ -382,9 +389,9 @@ times_le a c k h = grind arith
 any_from : {A : Type 0} (e : A → A → Bool) → ((x : A) → e x x ≡ true) → (q : A) (ks : List A) → Contains ks q → list_any (e q) ks ≡ true
 any_from e it q [] c = absurd (let l = c.1 in omega arith)
 any_from e it q (k ∷ ks) c = elim (cons-cases k ks q c) [
-    | inl is ↦ ap (λ b. b || list_any (e q) ks) (ap (λ x. e q x) is ∙ it q)
-    | inr d ↦ or_later (e q k) (list_any (e q) ks) (any_from e it q ks d)
-  ]
+  | inl is ↦ ap (λ b. b || list_any (e q) ks) (ap (λ x. e q x) is ∙ it q)
+  | inr d ↦ or_later (e q k) (list_any (e q) ks) (any_from e it q ks d)
+]
 
 pub few-vars : (run vars : List ℕ) → IsDistinct nat_eq run → ((v : ℕ) → Contains run v → Contains vars v) → length run ≤ length vars
 few-vars run vars d all = length-le_from_is_member nat_eq_equiv run vars d (λ q m. any_from nat_eq test_itself q vars (all q (any_contains q run m)))
@@ -431,17 +438,19 @@ module _ (count limit : ℕ) (right : ℕ → Assignment → Set) (reads : ℕ �
       let is : s ≡ assigned (b, o) v = below-antisym s (assigned (b, o) v) (subst (λ a. Below s (a v)) w.same below) (subst (λ x. Below (assigned (b, o) v) x) (sym r.value) (h.progress.rising v run_v)) in
       let at = ap (λ (a : Assignment). a v) w.same in
       let equal : sum_by (λ p. rank limit (assigned (b, o) p.1)) qs + 0 ≤ sum_by (λ p. rank limit (assigned (b, q.0) p.1)) qs =
-        subst (λ (a : Assignment). sum_by (λ (p : ℕ × ℕ). rank limit (a p.1)) qs + 0 ≤ sum_by (λ p. rank limit (assigned (b, q.0) p.1)) qs) w.same (omega arith) in
-      (record {
-        progress = w.progress;
-        itself = at ∙ sym is;
-        others = λ z n. ap (λ (a : Assignment). a z) w.same;
-        keeps = λ z k. k;
-        told = inl (sym is);
-        rest_waits = λ u c. Contains-append_left rest w.more u c;
-        more_waits = λ u c. Contains-append_right rest w.more u c;
-        waiting = λ u c. elim (Contains-append_cases rest w.more u c) [ inl d ↦ inl d | inr d ↦ inr (inl d) ]
-      }, credit-step limit (b, o) (b, q.0) run w.more q.1 pairs ps.more qs (length (rest ++ w.more)) (length rest) 0 w.run ps.is equal (omega (arith, length-append rest w.more)))
+      subst (λ (a : Assignment). sum_by (λ (p : ℕ × ℕ). rank limit (a p.1)) qs + 0 ≤ sum_by (λ p. rank limit (assigned (b, q.0) p.1)) qs) w.same (omega arith) in (
+        record {
+          progress = w.progress;
+          itself = at ∙ sym is;
+          others = λ z n. ap (λ (a : Assignment). a z) w.same;
+          keeps = λ z k. k;
+          told = inl (sym is);
+          rest_waits = λ u c. Contains-append_left rest w.more u c;
+          more_waits = λ u c. Contains-append_right rest w.more u c;
+          waiting = λ u c. elim (Contains-append_cases rest w.more u c) [ inl d ↦ inl d | inr d ↦ inr (inl d) ];
+        },
+        credit-step limit (b, o) (b, q.0) run w.more q.1 pairs ps.more qs (length (rest ++ w.more)) (length rest) 0 w.run ps.is equal (omega (arith, length-append rest w.more)),
+      )
 
   stepped_rises : is_below s (or_none (get q.0 v)) ≡ false → Stepped (insert q.0 v s) ((rest ++ w.more) ++ readers v qs)
   stepped_rises e =
@@ -452,27 +461,29 @@ module _ (count limit : ℕ) (right : ℕ → Assignment → Set) (reads : ℕ �
       let itself : assigned (b, o') v ≡ s = assigned-insert b q.0 v s v apart_v ∙ ap (λ c. cond c s (assigned (b, q.0) v)) (test_itself v) in
       let le : (z : ℕ) → rank limit (assigned (b, o) z) ≤ rank limit (assigned (b, o') z) = λ z. (rank-le limit _ _ (up'.at z) (h.progress.fits.at z) (after.fits.at z)).0 in
       let strict : (rank limit (assigned (b, o') v) ≤ rank limit (assigned (b, o) v) → ⊥) = λ m.
-        let same : assigned (b, o) v ≡ assigned (b, o') v = (rank-le limit _ _ (up'.at v) (h.progress.fits.at v) (after.fits.at v)).1 m in
-        let below : Below s (assigned (b, o) v) = below-eq s (assigned (b, o) v) (sym itself ∙ sym same) in
-        let t : is_below s (or_none (get q.0 v)) ≡ true = ap (λ x. is_below s x) (here ∙ ap (λ (a : Assignment). a v) w.same) ∙ below.is in
-        absurd (cc) in
+      let same : assigned (b, o) v ≡ assigned (b, o') v = (rank-le limit _ _ (up'.at v) (h.progress.fits.at v) (after.fits.at v)).1 m in
+      let below : Below s (assigned (b, o) v) = below-eq s (assigned (b, o) v) (sym itself ∙ sym same) in
+      let t : is_below s (or_none (get q.0 v)) ≡ true = ap (λ x. is_below s x) (here ∙ ap (λ (a : Assignment). a v) w.same) ∙ below.is in
+      absurd (cc) in
       let lv = le v in
-      let lt : rank limit (assigned (b, o) v) < rank limit (assigned (b, o') v) = less_by (rank limit (assigned (b, o) v)) (rank limit (assigned (b, o') v)) lv strict in
-      (record {
-        progress = after;
-        itself = itself;
-        others = λ z n. assigned-insert b q.0 v s z apart_v ∙ ap (λ c. cond c s (assigned (b, q.0) z)) (test_apart z v n) ∙ ap (λ (a : Assignment). a z) w.same;
-        keeps = λ z k. has-insert b q.0 v s z apart_v k;
-        told = inr (λ u c. Contains-append_right (rest ++ w.more) (readers v qs) u c);
-        rest_waits = λ u c. Contains-append_left (rest ++ w.more) (readers v qs) u (Contains-append_left rest w.more u c);
-        more_waits = λ u c. Contains-append_left (rest ++ w.more) (readers v qs) u (Contains-append_right rest w.more u c);
-        waiting = λ u c. elim (Contains-append_cases (rest ++ w.more) (readers v qs) u c) [
-          | inl d ↦ elim (Contains-append_cases rest w.more u d) [ inl e ↦ inl e | inr e ↦ inr (inl e) ]
-          | inr d ↦ inr (inr d)
-        ]
-      }, credit-step limit (b, o) (b, o') run w.more q.1 pairs ps.more qs (length ((rest ++ w.more) ++ readers v qs)) (length rest) (length (readers v qs)) w.run ps.is
-          (readers-cost v (λ z. rank limit (assigned (b, o) z)) (λ z. rank limit (assigned (b, o') z)) le lt qs)
-          (omega (arith, length-append (rest ++ w.more) (readers v qs), length-append rest w.more)))
+      let lt : rank limit (assigned (b, o) v) < rank limit (assigned (b, o') v) = less_by (rank limit (assigned (b, o) v)) (rank limit (assigned (b, o') v)) lv strict in (
+        record {
+          progress = after;
+          itself = itself;
+          others = λ z n. assigned-insert b q.0 v s z apart_v ∙ ap (λ c. cond c s (assigned (b, q.0) z)) (test_apart z v n) ∙ ap (λ (a : Assignment). a z) w.same;
+          keeps = λ z k. has-insert b q.0 v s z apart_v k;
+          told = inr (λ u c. Contains-append_right (rest ++ w.more) (readers v qs) u c);
+          rest_waits = λ u c. Contains-append_left (rest ++ w.more) (readers v qs) u (Contains-append_left rest w.more u c);
+          more_waits = λ u c. Contains-append_left (rest ++ w.more) (readers v qs) u (Contains-append_right rest w.more u c);
+          waiting = λ u c. elim (Contains-append_cases (rest ++ w.more) (readers v qs) u c) [
+            | inl d ↦ elim (Contains-append_cases rest w.more u d) [ inl e ↦ inl e | inr e ↦ inr (inl e) ]
+            | inr d ↦ inr (inr d)
+          ];
+        },
+        credit-step limit (b, o) (b, o') run w.more q.1 pairs ps.more qs (length ((rest ++ w.more) ++ readers v qs)) (length rest) (length (readers v qs)) w.run ps.is
+            (readers-cost v (λ z. rank limit (assigned (b, o) z)) (λ z. rank limit (assigned (b, o') z)) le lt qs)
+            (omega (arith, length-append (rest ++ w.more) (readers v qs), length-append rest w.more)),
+      )
 
   stepped_by : (c : Bool) → is_below s (or_none (get q.0 v)) ≡ c → Stepped (cond c q.0 (insert q.0 v s)) (cond c (rest ++ w.more) ((rest ++ w.more) ++ readers v qs))
   stepped_by true e = stepped_same e
@@ -518,8 +529,8 @@ module _ (count limit : ℕ) (right : ℕ → Assignment → Set) (reads : ℕ �
     step_done n run' ne re waited waitede vs vse qs qse rs rse o' oe waits wse =
         let ps : Paired q.0 v noted pairs qs = subst (λ x. Paired q.0 v noted pairs x) (sym (qse ∙ ap (λ x. paired q.0 v x pairs) vse)) (paired-all q.0 v noted pairs) in
         stepped count limit right reads mono fits b starts o run rest v pairs h s noted r q extends_here qs ps
-          waited (waitede ∙ ap (λ x. rest ++ x) (ap (λ x. drop n x) re ∙ fresh-ones run q.1 extends_here.more n extends_here.run ne)) o' oe waits
-          (wse ∙ ap (λ x. cond (is_below s (or_none (get q.0 v))) waited (waited ++ readers v x)) rse)
+        waited (waitede ∙ ap (λ x. rest ++ x) (ap (λ x. drop n x) re ∙ fresh-ones run q.1 extends_here.more n extends_here.run ne)) o' oe waits
+        (wse ∙ ap (λ x. cond (is_below s (or_none (get q.0 v))) waited (waited ++ readers v x)) rse)
 
 no_pair : (ps : List (ℕ × ℕ)) → ps ≡ [] → (p : ℕ × ℕ) → Contains ps p → ⊥
 no_pair ps e p c = let l = ap length e in let h = c.1 in omega arith
@@ -573,9 +584,9 @@ in-grid : (m n u v : ℕ) → u < m → v < n → Contains (grid m n) (u, v)
 unfolding grid
 in-grid zero n u v h l = absurd (omega arith)
 in-grid (suc m) n u v h l = elim (below-suc u m (u == m) refl h) [
-    | inl is ↦ Contains-append_left (row m n) (grid m n) (u, v) (subst (λ x. Contains (row m n) (x, v)) (sym is) (in-row m n v l))
-    | inr k ↦ Contains-append_right (row m n) (grid m n) (u, v) (in-grid m n u v k l)
-  ]
+  | inl is ↦ Contains-append_left (row m n) (grid m n) (u, v) (subst (λ x. Contains (row m n) (x, v)) (sym is) (in-row m n v l))
+  | inr k ↦ Contains-append_right (row m n) (grid m n) (u, v) (in-grid m n u v k l)
+]
 
 pub most_steps : ℕ → ℕ → ℕ
 most_steps count limit = length (upto count) + (limit + 2) * length (grid count count)
@@ -625,7 +636,7 @@ module _ (count limit : ℕ) (right : ℕ → Assignment → Set) (reads : ℕ �
     there = λ v c. absurd (no_run run r v c);
     counted = λ v c. absurd (no_run run r v c);
     stored = λ v f. absurd (no_set o e v f);
-    listed = λ v s f. inl (all.at v s f)
+    listed = λ v s f. inl (all.at v s f);
   }
 
   pub lazy-first : (o : Map) (run : List ℕ) (v : ℕ) (q : Map × List ℕ) (pending : List ℕ) (pairs : List (ℕ × ℕ)) → o ≡ empty → run ≡ [] → AllLeast count limit right (b, o) → v < count → found (b, o) v ≡ None
@@ -642,7 +653,7 @@ module _ (count limit : ℕ) (right : ℕ → Assignment → Set) (reads : ℕ �
         pairs_in = λ u z c. absurd (no_pair pairs pse (u, z) c);
         reached = λ u c. start (inside u c);
         distinct = subst (λ xs. IsDistinct nat_eq xs) (sym (ap (λ (x : Map × List ℕ). x.1) e ∙ r1)) (IsDistinct-push nat_eq_equiv [] v (IsDistinct-from_apart nat_eq [] (λ i j d l m. absurd (omega arith))) refl);
-        apart = subst (λ xs. IsDistinct same_pair xs) (sym pse) (IsDistinct-from_apart same_pair [] (λ i j d l m. absurd (omega arith)))
+        apart = subst (λ xs. IsDistinct same_pair xs) (sym pse) (IsDistinct-from_apart same_pair [] (λ i j d l m. absurd (omega arith)));
       }
 
   pub lazy-first_has : (o : Map) (run : List ℕ) (v : ℕ) (q : Map × List ℕ) → found (b, o) v ≡ None → q ≡ added_by (found (b, o) v) o run v → HasSet (b, q.0) v

@@ -34,7 +34,12 @@ fn pair_one(work: &Table, reader: u64, read: u64, pairs: &mut Vec<(u64, u64)>) -
 }
 
 // Pairs the reader with each variable in progress that it read.
-fn pair_all(work: &Table, reader: u64, noted: &[u64], pairs: &mut Vec<(u64, u64)>) -> Result<(), Memory>
+fn pair_all(
+    work: &Table,
+    reader: u64,
+    noted: &[u64],
+    pairs: &mut Vec<(u64, u64)>,
+) -> Result<(), Memory>
     ensures { OnOk result (pairs.new.items ≡ paired work.now reader noted.now pairs.old.items) }
 {
     for var in noted {
@@ -72,7 +77,13 @@ fn wait_for(run: &[u64], known: usize, pending: &mut Vec<u64>) -> Result<(), Mem
 }
 
 // Gives a set to a variable where it does not lie within the present one, and then who read it waits.
-fn raise_and_wake(work: &mut Table, var: u64, set: AbsSet, pairs: &[(u64, u64)], pending: &mut Vec<u64>) -> Result<(), Memory>
+fn raise_and_wake(
+    work: &mut Table,
+    var: u64,
+    set: AbsSet,
+    pairs: &[(u64, u64)],
+    pending: &mut Vec<u64>,
+) -> Result<(), Memory>
     requires { IsSome (map.get work.old var) }
     ensures table { OnOk result (work.new ≡ (if is_below set (or_none (map.get work.old var)) then work.old else map.insert work.old var set)) }
     ensures waits { OnOk result (pending.new.items ≡ (if is_below set (or_none (map.get work.old var)) then pending.old.items else pending.old.items ++ readers var pairs.now)) }
@@ -114,7 +125,14 @@ fn step_one<E: Equations, L: Ledger>(
 
 /// Every step from one variable that no table has. The answer lists the variables that were in progress: at Ok each of
 /// them is solved, in `work`.
-pub fn work_through<E: Equations, L: Ledger>(alloc: Global, eqs: &E, base: &Solved, work: &mut Table, start: u64, steps: &mut Steps<L>) -> Result<Vec<u64>, Memory>
+pub fn work_through<E: Equations, L: Ledger>(
+    alloc: Global,
+    eqs: &E,
+    base: &Solved,
+    work: &mut Table,
+    start: u64,
+    steps: &mut Steps<L>,
+) -> Result<Vec<u64>, Memory>
     requires start_in { start < E.count_of eqs.now }
     requires empty { work.old ≡ map.empty }
     requires right { AllLeast (E.count_of eqs.now) (E.limit_of eqs.now) (E.right eqs.now) (base.now, work.old) }
@@ -132,7 +150,18 @@ pub fn work_through<E: Equations, L: Ledger>(alloc: Global, eqs: &E, base: &Solv
     add_one(alloc, base, work, &mut run, start)?;
     pending.push(start)?;
     while let Some(var) = pending.pop() {
-        step_one(alloc, eqs, base, work, &mut run, &mut pending, &mut pairs, start, var, steps)?;
+        step_one(
+            alloc,
+            eqs,
+            base,
+            work,
+            &mut run,
+            &mut pending,
+            &mut pairs,
+            start,
+            var,
+            steps,
+        )?;
     }
     Ok(run)
 }

@@ -51,7 +51,8 @@ fn solved_by<L: Ledger>(
     })
 }
 
-fn plain_by<L: Ledger>(
+// The set of a variable by the solver that keeps what it solved.
+fn demanded_by<L: Ledger>(
     alloc: Global,
     system: &System,
     var: u64,
@@ -64,11 +65,14 @@ fn plain_by<L: Ledger>(
     if var >= system.var_count() {
         return Ok(1000);
     }
-    Ok(bits_of(&Plain::solve(alloc, system, var, &mut Steps::<L>::new(blank))?))
+    let mut steps = Steps::<L>::new(blank);
+    let base = Frozen::empty(alloc);
+    let mut solver = Solver::new(alloc, system, &base);
+    Ok(bits_of(solver.demand(var, &mut steps)?))
 }
 
-fn plain(alloc: Global, system: &System, var: u64) -> Result<u32, Memory> {
-    plain_by::<Brand>(alloc, system, var, Blank::new(1))
+fn demanded(alloc: Global, system: &System, var: u64) -> Result<u32, Memory> {
+    demanded_by::<Brand>(alloc, system, var, Blank::new(1))
 }
 
 fn solved(alloc: Global, system: &System, var: u64) -> Result<u32, Memory> {
@@ -187,10 +191,14 @@ fn ring(alloc: Global, size: u64, limit: u32) -> Result<System, Memory> {
 #[test]
 fn a_ring_has_its_one_value(rt: HostRuntime) -> Result<(), Fail> {
     let alloc = rt.alloc();
+    let short = ring(alloc, 50, 100)?;
+    assert_eq!(rt; solved(alloc, &short, 49)?, 32);
     let system = ring(alloc, 1000, 100)?;
     least_solves(&system);
     assert_eq!(rt; system.var_count(), 1000);
-    assert_eq!(rt; plain(alloc, &system, 0)?, 32);
+    for var in [0, 1, 500, 999] {
+        assert_eq!(rt; demanded(alloc, &system, var)?, 32, "{var}");
+    }
     Ok(())
 }
 

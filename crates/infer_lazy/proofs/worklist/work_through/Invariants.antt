@@ -8,7 +8,7 @@ abbrev pub invariant-loop-var : goal.invariant-loop-var
 invariant-loop-var g l = record {
   lazy : Lazy (g.E.Equations.count_of l.fn.eqs) (g.E.Equations.limit_of l.fn.eqs) (g.E.Equations.right l.fn.eqs) (g.E.Equations.reads l.fn.eqs) l.fn.base l.work (l.fn.start ∷ []) l.run.items l.pending.items l.pairs.items;
   has : HasSet (l.fn.base, l.work) l.fn.start;
-  cost : l.steps + length l.pending.items ≤ l.fn.steps + credit (g.E.Equations.limit_of l.fn.eqs) (l.fn.base, l.work) l.run.items l.pairs.items
+  cost : l.steps + length l.pending.items ≤ l.fn.steps + credit (g.E.Equations.limit_of l.fn.eqs) (l.fn.base, l.work) l.run.items l.pairs.items;
 }
 
 abbrev pub decreases-loop-var : goal.decreases-loop-var
