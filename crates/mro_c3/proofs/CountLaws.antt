@@ -1,10 +1,9 @@
 -- Laws of tables of counts: what one write changes, and how counts add up.
-use Rattle.std.proofs.Common.{◌≡◌, ◌≢◌, ℕ, ◌+◌, ◌-◌, ◌≤◌, ◌<◌, List, [], ◌∷◌, ◌++◌, set, get_or, drop, sym, subst, refl, arith, length, ◌⊎◌, inl, inr}
+use Rattle.std.proofs.Common.{◌≡◌, ◌≢◌, ℕ, ◌+◌, ◌≤◌, ◌<◌, List, [], ◌∷◌, ◌++◌, set, get_or, drop, sym, subst, refl, arith, length, inl, inr}
 use Rattle.std.proofs.lemmas.Bool.{cases_lt}
 use Rattle.std.proofs.lemmas.List.{get_or-set_same, get_or-set_other, get_or_past}
-use Rattle.mro_c3.specs.Merge.{occurrences}
 use Rattle.mro_c3.specs.Table.{CountsMore, IsCounted, Recounts}
-use Rattle.mro_c3.proofs.Occurrences.{occurrences-nil, occurrences-cons, occurrences-same, occurrences-other, occurrences-append, same_or_other}
+use Rattle.mro_c3.proofs.Occurrences.{occurrences-nil, occurrences-same, occurrences-other, occurrences-append, same_or_other}
 
 pub CountsMore-nil : (counts : List ℕ) → CountsMore [] counts counts
 CountsMore-nil counts = record { at = λ n. omega (arith, occurrences-nil n) }

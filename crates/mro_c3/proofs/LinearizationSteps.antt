@@ -1,6 +1,6 @@
 -- The order of a class from those of its bases.
-use Rattle.std.proofs.Common.{◌≡◌, ◌≢◌, ℕ, ◌+◌, ◌≤◌, ◌<◌, List, [], ◌∷◌, ◌++◌, Bool, true, false, map, ap, refl, subst, sym, ◌∙◌, arith, length, get_or, Option, Some, None, Result, Ok, Err, ◌⊎◌, inl, inr}
-use Rattle.std.specs.List.{All, Contains}
+use Rattle.std.proofs.Common.{◌≡◌, ℕ, ◌+◌, ◌≤◌, ◌<◌, List, [], ◌∷◌, ◌++◌, Bool, true, false, map, ap, subst, sym, ◌∙◌, arith, length, get_or, Option, Some, None, Result, Ok, Err, inl, inr}
+use Rattle.std.specs.List.{All}
 use Rattle.std.specs.Option.{IfSome}
 use Rattle.std.specs.Result.{IfOk}
 use Rattle.std.proofs.lemmas.List.{length_push, get_or_append_left, get_or_push}
@@ -8,7 +8,7 @@ use Rattle.std.proofs.lemmas.List.Elements.{All-head, All-tail, All-nil, All-con
 use Rattle.mro_c3.specs.Laws.{IsLinear}
 use Rattle.mro_c3.specs.Merge.{Merges}
 use Rattle.mro_c3.specs.Order.{bases, merged_lists, BasesAreBelow, IsOrder, linearized}
-use Rattle.mro_c3.specs.Table.{AllNumbersBelow, CountsTails, HasBaseOrders, HasOrders, IsMarked, IsMergedBehind, MarksReached, order_at}
+use Rattle.mro_c3.specs.Table.{AllNumbersBelow, HasBaseOrders, HasOrders, IsMarked, IsMergedBehind, MarksReached, order_at}
 use Rattle.mro_c3.proofs.MarkLaws.{row_is}
 use Rattle.mro_c3.proofs.MergeSteps.{Merges-below}
 use Rattle.mro_c3.proofs.Occurrences.{same_or_other}

@@ -1,12 +1,12 @@
 -- Laws of marks, and of the classes that are reached.
-use Rattle.std.proofs.Common.{◌≡◌, ◌≢◌, ℕ, ◌+◌, ◌≤◌, ◌<◌, List, [], ◌∷◌, ◌++◌, Bool, true, false, zero, suc, set, get_or, take, replicate, refl, ap, subst, sym, ◌∙◌, arith, length, ◌⊎◌, inl, inr}
+use Rattle.std.proofs.Common.{◌≡◌, ℕ, ◌+◌, ◌≤◌, ◌<◌, List, [], ◌∷◌, ◌++◌, Bool, true, false, zero, suc, set, get_or, replicate, ap, subst, sym, ◌∙◌, arith, length, inl, inr}
 use Rattle.std.specs.List.{Contains, All}
 use Rattle.std.proofs.lemmas.Bool.{cases_lt}
 use Rattle.std.proofs.lemmas.List.{get_or-set_same, get_or-set_other, get_or_past, length-set, length-replicate, get_or-replicate}
 use Rattle.std.proofs.lemmas.List.Elements.{All-same, All-weaker, Contains-append_left, Contains-append_right, Contains-append_cases}
 use Rattle.mro_c3.specs.Order.{bases, BasesAreBelow, Reaches, itself, by_base}
 use Rattle.mro_c3.specs.Table.{IsMarked, Marks, MarksFrom, MarksReached}
-use Rattle.mro_c3.proofs.OrderLaws.{below_row, Reaches-below}
+use Rattle.mro_c3.proofs.OrderLaws.{below_row}
 use Rattle.mro_c3.proofs.Occurrences.{Contains-none, Contains-cases, Contains-here, same_or_other}
 
 pub Marks-nil : (marks : List Bool) → Marks [] marks marks

@@ -1,7 +1,7 @@
 -- Laws of the merge: there is at most one, it has the numbers of the lists, each once, and keeps the order of each list.
-use Rattle.std.proofs.Common.{◌≡◌, ◌≢◌, ◌==◌, ℕ, ◌+◌, ◌≤◌, ◌<◌, List, [], ◌∷◌, ◌++◌, map, refl, ap, subst, sym, ◌∙◌, arith, cond, Bool, true, false, length, get_or, suc, zero, Option, Some, None, ◌⊎◌, inl, inr}
-use Rattle.std.specs.List.{concat, Contains, find}
-use Rattle.mro_c3.specs.Merge.{occurrences, heads, tails, without_head, next_of, Merges}
+use Rattle.std.proofs.Common.{◌≡◌, ◌==◌, ℕ, ◌≤◌, List, [], ◌∷◌, map, refl, subst, sym, ◌∙◌, arith, cond, true, false, Some, inl, inr}
+use Rattle.std.specs.List.{concat, Contains}
+use Rattle.mro_c3.specs.Merge.{occurrences, heads, without_head, next_of, Merges}
 use Rattle.mro_c3.specs.Subsequence.{IsSubsequence, nothing, kept, left_out}
 use Rattle.mro_c3.proofs.Occurrences.{occurrences-nil, occurrences-cons, occurrences-same, occurrences-other, occurrences-used_up, occurrences-without_head, occurrences-without_other, next_of-in_no_tail, next_of-in_lists, same_or_other, heads-cons_nil, heads-cons_cons, Contains-cases, Contains-here, Contains-there, Contains-none}
 

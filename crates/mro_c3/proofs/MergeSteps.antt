@@ -1,11 +1,11 @@
 -- One step of the merge: what it takes, what it leaves, and how it goes on.
-use Rattle.std.proofs.Common.{◌≡◌, ◌≢◌, ◌==◌, ℕ, ◌+◌, ◌-◌, ◌≤◌, ◌<◌, ◌↔◌, List, [], ◌∷◌, ◌++◌, map, take, drop, set, replicate, refl, ap, subst, sym, ◌∙◌, arith, cond, Bool, true, false, length, get_or, suc, zero, Option, Some, None, ◌⊎◌, inl, inr, append_assoc, append-nil, add-one, drop-cons}
+use Rattle.std.proofs.Common.{◌≡◌, ◌≢◌, ◌==◌, ℕ, ◌+◌, ◌≤◌, ◌<◌, ◌↔◌, List, [], ◌∷◌, ◌++◌, map, take, drop, set, replicate, refl, ap, subst, sym, ◌∙◌, arith, cond, true, false, length, get_or, suc, zero, Option, Some, None, inl, inr, append_assoc, append-nil, add-one, drop-cons}
 use Rattle.std.proofs.Math.ListN.{drop_of_length-le}
-use Rattle.std.specs.Bool.{IsTrue, OnTrue, OnFalse}
-use Rattle.std.specs.List.{concat, Contains, find, sum_by, All}
+use Rattle.std.specs.Bool.{IsTrue}
+use Rattle.std.specs.List.{concat, find, sum_by, All}
 use Rattle.std.proofs.lemmas.Bool.{cases_lt}
 use Rattle.std.proofs.lemmas.List.{get_or_past, get_or-replicate, length-replicate}
-use Rattle.std.proofs.lemmas.List.Elements.{All-head, All-tail, All-nil, All-cons, All-push, All-map, All-weaker, All-contains}
+use Rattle.std.proofs.lemmas.List.Elements.{All-head, All-tail, All-nil, All-cons, All-map, All-weaker}
 use Rattle.std.proofs.lemmas.List.Sums.{sum_by-cons, sum_by-set, sum_by_more, get_or-le-sum_by}
 use Rattle.mro_c3.specs.Merge.{occurrences, head, heads, tails, without_head, next_of, Merges}
 use Rattle.mro_c3.specs.Table.{AllNumbersBelow, CountsMore, CountsTails, IsCounted, Recounts, IsMergedSoFar, IsMergedBehind, next_among}

@@ -1,9 +1,8 @@
 -- How often a number stands in a list, in several lists, in their heads and in their tails.
 use Rattle.std.proofs.Common.{◌≡◌, ◌≢◌, ◌==◌, ℕ, ◌+◌, ◌≤◌, ◌<◌, List, [], ◌∷◌, ◌++◌, map, drop, refl, ap, subst, sym, ◌∙◌, arith, cond, Bool, true, false, length, get_or, suc, zero, Option, Some, None, ◌⊎◌, inl, inr}
 use Rattle.std.specs.List.{concat, Contains, find}
-use Rattle.std.proofs.lemmas.Grind.{common_steps}
 use Rattle.std.proofs.lemmas.List.Sums.{sum_by-cons}
-use Rattle.mro_c3.specs.Merge.{occurrences, heads, tails, without_head, head, next_of}
+use Rattle.mro_c3.specs.Merge.{occurrences, heads, tails, without_head, next_of}
 
 pub occurrences-nil : (n : ℕ) → occurrences [] n ≡ 0
 unfolding occurrences

@@ -1,14 +1,14 @@
 -- Laws of class orders: a class has at most one, and it agrees with the order of each class that stands in it.
-use Rattle.std.proofs.Common.{◌≡◌, ◌≢◌, ◌↔◌, ℕ, ◌+◌, ◌-◌, ◌≤◌, ◌<◌, List, [], ◌∷◌, ◌++◌, map, refl, ap, subst, sym, ◌∙◌, arith, length, get_or, ◌⊎◌, inl, inr}
-use Rattle.std.specs.List.{concat, Contains, All}
+use Rattle.std.proofs.Common.{◌≡◌, ℕ, ◌+◌, ◌≤◌, ◌<◌, List, [], ◌∷◌, ◌++◌, map, refl, subst, sym, arith, length, ◌⊎◌, inl, inr}
+use Rattle.std.specs.List.{concat, Contains}
 use Rattle.std.proofs.lemmas.Bool.{cases_lt}
 use Rattle.std.proofs.lemmas.List.{get_or_past}
 use Rattle.std.proofs.lemmas.List.Folds.{concat-append}
-use Rattle.std.proofs.lemmas.List.Elements.{All-contains, Contains-append_left, Contains-append_right, Contains-append_cases}
+use Rattle.std.proofs.lemmas.List.Elements.{All-contains, Contains-append_left, Contains-append_right}
 use Rattle.mro_c3.specs.Laws.{IsLinear}
 use Rattle.mro_c3.specs.Merge.{occurrences, Merges}
 use Rattle.mro_c3.specs.Order.{bases, merged_lists, BasesAreBelow, IsOrder, linearized, Reaches, itself, by_base}
-use Rattle.mro_c3.specs.Subsequence.{IsSubsequence, nothing, kept, left_out}
+use Rattle.mro_c3.specs.Subsequence.{IsSubsequence, kept, left_out}
 use Rattle.mro_c3.proofs.MergeLaws.{Merges-unique, occurrences-merged_from, occurrences-merged_to, occurrences-merged_once, IsSubsequence-merged}
 use Rattle.mro_c3.proofs.Occurrences.{occurrences-nil, occurrences-cons, occurrences-same, occurrences-other, occurrences-append, occurrences-concat, same_or_other, Contains-cases, Contains-here, Contains-there, Contains-none, Contains-from_occurrences, occurrences-from_Contains}
 use Rattle.mro_c3.proofs.SubsequenceLaws.{IsSubsequence-same, IsSubsequence-through}

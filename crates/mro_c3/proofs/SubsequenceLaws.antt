@@ -1,5 +1,5 @@
 -- Laws of subsequences.
-use Rattle.std.proofs.Common.{◌≡◌, ℕ, ◌≤◌, List, [], ◌∷◌, arith}
+use Rattle.std.proofs.Common.{ℕ, ◌≤◌, List, [], ◌∷◌, arith}
 use Rattle.mro_c3.specs.Merge.{occurrences}
 use Rattle.mro_c3.specs.Subsequence.{IsSubsequence, nothing, kept, left_out}
 use Rattle.mro_c3.proofs.Occurrences.{occurrences-nil, occurrences-cons}

@@ -1,7 +1,7 @@
 -- What is kept while classes are put in order: which are reached, the orders that are made, and what stands in tails.
-use Rattle.std.specs.Prelude.{◌≡◌, ◌==◌, ◌+◌, ◌<◌, ◌≤◌, ℕ, Bool, true, false, List, [], ◌∷◌, ◌++◌, ◌⊎◌, length, drop, find, Option, All, Contains, slice_index, slice_index_or}
+use Rattle.std.specs.Prelude.{◌≡◌, ◌==◌, ◌+◌, ◌<◌, ◌≤◌, ℕ, Bool, true, false, List, [], ◌++◌, ◌⊎◌, length, find, Option, All, Contains, slice_index, slice_index_or}
 use Rattle.mro_c3.specs.Merge.{occurrences, heads, tails, Merges}
-use Rattle.mro_c3.specs.Order.{bases, merged_lists, IsOrder, Reaches}
+use Rattle.mro_c3.specs.Order.{bases, IsOrder, Reaches}
 
 -- the later table counts each number of the list once more than the earlier one
 pub record CountsMore (list earlier later : List ℕ) : Type 0 where

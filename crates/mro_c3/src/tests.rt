@@ -24,7 +24,7 @@ fn has_order(
     assert!(rt; bases_are_below(&rows));
     assert!(rt; k < rows.len());
     match linearize(alloc, &rows, k)? {
-        Some(found) => assert_eq!(rt; found.as_slice(), order),
+        Some(found) => assert_eq!(rt; found.into_vec().as_slice(), order),
         None => assert_eq!(rt; [].as_slice(), order),
     }
     Ok(())
@@ -187,8 +187,5 @@ fn a_class_below_its_base_is_told(rt: HostRuntime) -> Result<(), Fail> {
     assert!(rt; !bases_are_below(&rows_of(alloc, &[&[], &[1]])?));
     assert!(rt; !bases_are_below(&rows_of(alloc, &[&[1], &[]])?));
     assert!(rt; bases_are_below(&rows_of(alloc, &[])?));
-    let rows = rows_of(alloc, &[&[], &[0]])?;
-    let order = linearize(alloc, &rows, 1)?.ok_or("no order")?;
-    assert_eq!(rt; order.into_vec().as_slice(), [1, 0].as_slice());
     Ok(())
 }

@@ -1,5 +1,4 @@
-use Rattle.std.proofs.Common.{◌≡◌, ◌<◌, ◌∙◌, [], List, ℕ, ap, arith, length, subst, sym}
-use Rattle.mro_c3.specs.Order.{IsOrder}
+use Rattle.std.proofs.Common.{◌∙◌, [], ap, length, subst, sym}
 use Rattle.mro_c3.specs.Table.{CountsTails, HasBaseOrders, HasOrders}
 use Rattle.mro_c3.proofs.LinearizationSteps.{HasBaseOrders-marked, HasOrders-nil, HasOrders-made, HasOrders-skipped, no_order_reached, size_pushed}
 use Rattle.mro_c3.proofs.MergeSteps.{CountsTails-zeros}

@@ -1,8 +1,8 @@
-use Rattle.std.proofs.Common.{◌≡◌, ◌<◌, ◌≤◌, ◌∙◌, ◌∷◌, ◌++◌, ℕ, List, [], ap, subst, sym, length}
+use Rattle.std.proofs.Common.{◌<◌, ◌∙◌, subst, sym, length}
 use Rattle.std.specs.List.{All}
 use Rattle.std.proofs.lemmas.List.Elements.{All-same}
-use Rattle.mro_c3.specs.Order.{bases, merged_lists}
-use Rattle.mro_c3.specs.Table.{AllNumbersBelow, IsMergedBehind, order_at}
+use Rattle.mro_c3.specs.Order.{bases}
+use Rattle.mro_c3.specs.Table.{AllNumbersBelow, IsMergedBehind}
 use Rattle.mro_c3.proofs.LinearizationSteps.{base_lists_below, lists_in_room, IsOrder-made, order_small, no_order_made, read_lists, pushed_start}
 use Rattle.mro_c3.proofs.MarkLaws.{row_is}
 use Rattle.mro_c3.proofs.linearization.order_of.Goals as goal

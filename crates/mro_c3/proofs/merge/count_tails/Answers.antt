@@ -1,4 +1,3 @@
-use Rattle.std.proofs.Common.{take}
 use Rattle.mro_c3.proofs.MergeSteps.{CountsTails-more}
 use Rattle.mro_c3.proofs.merge.count_tails.Goals as goal
 

@@ -1,4 +1,4 @@
-use Rattle.std.proofs.Common.{◌≡◌, ◌∷◌, [], ◌∙◌, sym, refl, drop}
+use Rattle.std.proofs.Common.{◌∙◌, sym, refl}
 use Rattle.mro_c3.proofs.MergeSteps.{heads-empty, heads-headed, heads-end, not_used_up}
 use Rattle.mro_c3.proofs.merge.is_used_up.Goals as goal
 

@@ -1,9 +1,6 @@
-use Rattle.std.proofs.Common.{◌≡◌, ◌<◌, ◌++◌, ◌∷◌, [], length, map, subst, sym, ◌∙◌}
+use Rattle.std.proofs.Common.{sym, ◌∙◌}
 use Rattle.std.specs.Bool.{IsTrue}
-use Rattle.std.specs.List.{sum_by}
-use Rattle.mro_c3.specs.Merge.{without_head}
-use Rattle.mro_c3.specs.Table.{AllNumbersBelow, IsMergedSoFar}
-use Rattle.mro_c3.proofs.MergeSteps.{IsMergedSoFar-none, IsMergedSoFar-more, IsMergedBehind-used_up, no_merge, CountsTails-used_up, next_of-shorter, next_of-below, AllNumbersBelow-left, merged_step, left_step}
+use Rattle.mro_c3.proofs.MergeSteps.{IsMergedBehind-used_up, no_merge, CountsTails-used_up, next_of-shorter, merged_step, left_step}
 use Rattle.mro_c3.proofs.merge.merge.Goals as goal
 
 pub loop-number-smaller : goal.loop-number-smaller

@@ -1,4 +1,4 @@
-use Rattle.std.proofs.Common.{◌<◌, length, arith}
+use Rattle.std.proofs.Common.{arith}
 use Rattle.mro_c3.specs.Merge.{without_head}
 use Rattle.mro_c3.proofs.MergeSteps.{IsCounted-at, CountsTails-set, taken_set}
 use Rattle.mro_c3.proofs.merge.take_each.Goals as goal

@@ -1,7 +1,7 @@
-use Rattle.std.proofs.Common.{◌≡◌, ◌≤◌, ◌<◌, ◌+◌, ◌-◌, arith, length, subst, sym, ◌∙◌}
+use Rattle.std.proofs.Common.{◌≡◌, ◌+◌, ◌-◌, arith, subst, ◌∙◌}
 use Rattle.mro_c3.specs.Order.{bases}
 use Rattle.mro_c3.specs.Table.{Marks, MarksFrom}
-use Rattle.mro_c3.proofs.MarkLaws.{MarksFrom-start, MarksFrom-marked, MarksFrom-unmarked, MarksReached-from, row_is, row_below}
+use Rattle.mro_c3.proofs.MarkLaws.{MarksFrom-start, MarksFrom-marked, row_is, row_below}
 use Rattle.mro_c3.proofs.reached.mark_reached.Goals as goal
 
 pub loop-class-init : goal.loop-class-init
