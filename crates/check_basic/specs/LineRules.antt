@@ -1,12 +1,13 @@
--- Which messages a source's lines have: line-too-long, trailing-whitespace and missing-final-newline.
+-- Which messages a source's lines have: line-too-long, too-many-lines, trailing-whitespace and missing-final-newline.
 use Rattle.std.specs.Prelude.{ℕ, ◌+◌, ◌-◌, List, [], ◌∷◌, ◌++◌, Bool, if◌then◌else◌, ◌==◌, ◌&&◌, ◌||◌, not, nat_lt, nat_eq, length, take, drop, codes, None}
 use Rattle.std.specs.Fmt.{decimal}
 use Rattle.std.specs.List.{starts_with, list_all, suffix_len}
 use Rattle.lint_values.specs.declared.place.FileId.{FileId}
 use Rattle.lint_messages.specs.declared.code.Code.{Code}
-use Rattle.lint_messages.specs.declared.code.Code.TheVariants.{LineTooLong, TrailingWhitespace, MissingFinalNewline}
+use Rattle.lint_messages.specs.declared.code.Code.TheVariants.{LineTooLong, TooManyLines, TrailingWhitespace, MissingFinalNewline}
 use Rattle.lint_messages.specs.declared.message.Message.{Message}
 use Rattle.lint_messages.specs.Order.{in_order}
+use Rattle.options.specs.declared.settings.Options.{Options}
 use Rattle.check_basic.specs.Lines.{lines_of, ends_line, char_count, source_of}
 
 -- what counts as white space at a line's end: blanks, tabs and vertical tabs
@@ -68,10 +69,16 @@ numbered_messages most file number (line ∷ lines) = line_messages most file nu
 abbrev pub missing_final_newline : FileId → List ℕ → List Message
 missing_final_newline file text = if length text == 0 || ends_line text then [] else message file (length (lines_of text)) 0 MissingFinalNewline [] ∷ []
 
--- the messages of a source without its byte order mark, in their order
-abbrev pub text_messages : ℕ → FileId → List ℕ → List Message
-text_messages most file text = in_order (numbered_messages most file 1 (lines_of text) ++ missing_final_newline file text)
+-- too-many-lines: more physical lines than allowed
+abbrev pub too_many_lines : ℕ → FileId → ℕ → List Message
+too_many_lines most file count = if nat_lt most count then message file 1 0 TooManyLines (decimal count ∷ decimal most ∷ []) ∷ [] else []
+
+-- the messages of a source without its byte order mark, as they are found
+abbrev pub found_messages : Options → FileId → List ℕ → List Message
+found_messages options file text =
+    (numbered_messages options.max_line_length file 1 (lines_of text) ++ too_many_lines options.max_module_lines file (length (lines_of text)))
+    ++ missing_final_newline file text
 
 -- the messages of a source's lines, in their order
-abbrev pub source_messages : ℕ → FileId → List ℕ → List Message
-source_messages most file bytes = text_messages most file (source_of bytes)
+abbrev pub source_messages : Options → FileId → List ℕ → List Message
+source_messages options file bytes = in_order (found_messages options file (source_of bytes))

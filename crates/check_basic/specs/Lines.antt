@@ -1,7 +1,6 @@
 -- The physical lines of a source: they end with LF, CR LF or CR, and a byte order mark at the start is no part of them.
-use Rattle.std.specs.Prelude.{ℕ, ◌+◌, ◌-◌, List, [], ◌∷◌, Bool, true, false, if◌then◌else◌, ◌==◌, ◌||◌, ◌&&◌, not, nat_lt, nat_le, nat_eq, length, take, drop, count_by, slice_index}
-use Rattle.std.specs.List.{onto_first, suffix_len, starts_with}
-use Rattle.lint_values.specs.declared.place.Pos.{Pos}
+use Rattle.std.specs.Prelude.{ℕ, ◌-◌, List, [], ◌∷◌, Bool, true, false, if◌then◌else◌, ◌==◌, ◌||◌, ◌&&◌, nat_lt, nat_le, nat_eq, length, take, drop, count_by, slice_index}
+use Rattle.std.specs.List.{onto_first, starts_with}
 
 abbrev pub byte_order_mark : List ℕ
 byte_order_mark = 239 ∷ 187 ∷ 191 ∷ []
@@ -40,15 +39,3 @@ begins_char b = nat_lt b 128 || nat_le 192 b
 
 abbrev pub char_count : List ℕ → ℕ
 char_count line = count_by begins_char line
-
--- how many bytes stand behind the last line end
-abbrev pub last_line_len : List ℕ → ℕ
-last_line_len front = suffix_len (λ b. not (is_line_end b)) front
-
--- the line behind this front, counted from 1
-abbrev pub line_behind : List ℕ → ℕ
-line_behind front = if last_line_len front == 0 then length (lines_of front) + 1 else length (lines_of front)
-
--- the place behind this front of a source
-abbrev pub place_behind : List ℕ → Pos
-place_behind front = record { line = line_behind front; col = last_line_len front }

@@ -1,7 +1,7 @@
 //! The checks of a source's lines.
 #![tactic(auto)]
 
-pub mod lines;
+mod lines;
 mod rules;
 mod source;
 

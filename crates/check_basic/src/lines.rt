@@ -1,9 +1,7 @@
 // The physical lines of a source, which end with LF, CR LF or CR.
-ghost use Rattle.std.specs.Prelude.{◌≡◌, ◌<◌, ◌≤◌, ◌+◌, ◌-◌, ◌^◌, ◌∷◌, length};
+ghost use Rattle.std.specs.Prelude.{◌≡◌, ◌<◌, ◌≤◌, ◌∷◌, length};
 ghost use Rattle.std.specs.List.{position_or_len};
-ghost use Rattle.check_basic.specs.Lines.{is_line_end, begins_char, char_count, after_end, lines_of, ends_line, last_line_len, source_of, place_behind};
-
-use lint_values::Pos;
+ghost use Rattle.check_basic.specs.Lines.{is_line_end, begins_char, char_count, after_end, lines_of, ends_line, source_of};
 
 fn is_line_end(b: u8) -> bool
     ensures { result ≡ is_line_end b }
@@ -79,44 +77,5 @@ pub fn ends_line(text: &[u8]) -> bool
     match text {
         [.., last] => is_line_end(*last),
         [] => false,
-    }
-}
-
-// How many bytes stand behind the last line end.
-fn last_line_len(front: &[u8]) -> usize
-    ensures len { result ≡ last_line_len front.now }
-    ensures within { result ≤ length front.now }
-{
-    let mut end = front.len();
-    while end > 0 && !is_line_end(front[end - 1]) {
-        end -= 1;
-    }
-    front.len() - end
-}
-
-fn line_count(front: &[u8]) -> usize
-    ensures count { result ≡ length (lines_of front.now) }
-    ensures within { result ≤ length front.now }
-{
-    let mut count = 0;
-    let mut rest = front;
-    while !rest.is_empty() {
-        let (_, after) = split_line(rest);
-        count += 1;
-        rest = after;
-    }
-    count
-}
-
-/// The place behind this front of a source: its line from 1, and its column from 0 in bytes.
-pub fn place_behind(front: &[u8]) -> Pos
-    requires { length front.now < 2 ^ 32 - 1 }
-    ensures { result ≡ place_behind front.now }
-{
-    let col = last_line_len(front) as u32;
-    let lines = line_count(front) as u32;
-    Pos {
-        line: if col == 0 { lines + 1 } else { lines },
-        col,
     }
 }

@@ -1,7 +1,7 @@
 // The rules on a line.
 ghost use Rattle.std.specs.Prelude.{◌≡◌, ◌<◌, ◌≤◌, ◌^◌, ◌++◌, ◌∷◌, [], length, IfOk, OnOk};
 ghost use Rattle.std.specs.Fmt.{decimal};
-ghost use Rattle.check_basic.specs.LineRules.{is_trailing, trailing_len, is_blank, without_blanks, behind, begins_as_address, has_no_blank, is_address_line, message, line_too_long, trailing_whitespace, line_messages};
+ghost use Rattle.check_basic.specs.LineRules.{is_trailing, trailing_len, is_blank, without_blanks, behind, begins_as_address, has_no_blank, is_address_line, message, line_too_long, too_many_lines, trailing_whitespace, line_messages};
 
 use crate::lines::char_count;
 use lint_messages::{Code, Message, Messages};
@@ -117,6 +117,31 @@ fn check_length(
             col: 0,
         },
         code: Code::LineTooLong,
+        args,
+    })
+}
+
+// More lines than a module may have.
+pub(crate) fn check_count(
+    alloc: Global,
+    most: u32,
+    file: FileId,
+    count: u32,
+    found: &mut Messages,
+) -> Result<(), Memory>
+    ensures { OnOk result (found.new ≡ found.old ++ too_many_lines most file count) }
+{
+    if count <= most {
+        return Ok(());
+    }
+    let mut args = Texts::new(alloc);
+    args.push(number_text(alloc, count as usize)?)?;
+    args.push(number_text(alloc, most as usize)?)?;
+    found.push(Message {
+        file,
+        node: None,
+        pos: Pos { line: 1, col: 0 },
+        code: Code::TooManyLines,
         args,
     })
 }

@@ -1,10 +1,10 @@
 // The checks of all lines of a source.
 ghost use Rattle.std.specs.Prelude.{◌≡◌, ◌<◌, ◌≤◌, ◌^◌, ◌++◌, length, IfOk, OnOk};
 ghost use Rattle.check_basic.specs.Lines.{lines_of};
-ghost use Rattle.check_basic.specs.LineRules.{numbered_messages, missing_final_newline, text_messages, source_messages};
+ghost use Rattle.check_basic.specs.LineRules.{numbered_messages, too_many_lines, missing_final_newline, source_messages};
 
 use crate::lines::{ends_line, source_of, split_line};
-use crate::rules::{check_line, plain_message};
+use crate::rules::{check_count, check_line, plain_message};
 use lint_messages::{Code, Messages};
 use lint_values::{FileId, Memory};
 use options::Options;
@@ -58,11 +58,12 @@ pub fn check_lines(
     options: &Options,
 ) -> Result<Messages, Memory>
     requires { length source.now < 2 ^ 32 }
-    ensures { IfOk result (λ messages. messages ≡ source_messages options.now.max_line_length file source.now) }
+    ensures { IfOk result (λ messages. messages ≡ source_messages options.now file source.now) }
 {
     let text = source_of(source);
     let mut found = Messages::new(alloc);
     let last = check_each(alloc, options.max_line_length, file, text, &mut found)?;
+    check_count(alloc, options.max_module_lines, file, last, &mut found)?;
     check_final_newline(alloc, file, text, last, &mut found)?;
     Ok(found.into_order(alloc)?)
 }

@@ -1,5 +1,4 @@
-pub mod Findings
 pub mod Outcomes
+pub mod ShownLaws
 pub mod Statuses
-pub mod Utf8
 pub mod Written

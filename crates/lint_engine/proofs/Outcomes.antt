@@ -1,17 +1,16 @@
 -- The status of words that are read.
-use Rattle.std.proofs.Common.{◌≡◌, ℕ, List}
+use Rattle.std.proofs.Common.{◌≡◌, ℕ, List, Option}
 use Rattle.std.specs.Prelude.{Ok}
-use Rattle.lint_messages.specs.declared.message.Message.{Message}
 use Rattle.options.specs.declared.line.Line.{Line}
 use Rattle.options.specs.Words.{line_of}
 use Rattle.lint_report.specs.declared.outcome.Answer.{Answer}
 use Rattle.lint_report.specs.declared.outcome.Answer.TheVariants.{Ran, Memory, SinkFault}
-use Rattle.lint_report.specs.Report.{bits}
+use Rattle.lint_report.specs.declared.outcome.Whole.{Whole}
 use Rattle.lint_engine.specs.Answers.{OnRan}
-use Rattle.lint_engine.specs.Command.{IsRefused}
+use Rattle.lint_engine.specs.Command.{IsRefused, IsPrinted}
 use Rattle.lint_engine.proofs.Statuses.{accepted}
 
-pub accepted_status : (answer : Answer) (words : List (List ℕ)) (line : Line) (messages : List Message) → line_of words ≡ Ok line → OnRan answer (λ status. status ≡ bits messages) → OnRan answer (IsRefused words)
-accepted_status (Ran status) words line messages read is = accepted words line messages status read is
-accepted_status Memory words line messages read is = tt
-accepted_status SinkFault words line messages read is = tt
+pub read_status : (words : List (List ℕ)) (whole : Whole) (line : Line) → line_of words ≡ Ok line → (answer : Answer) (before now : Option (List ℕ)) → OnRan answer (IsPrinted line whole.list before now) → OnRan answer (IsRefused words)
+read_status words whole line is (Ran status) before now done = accepted words line done.made.messages status is done.made.status_is
+read_status words whole line is Memory before now done = tt
+read_status words whole line is SinkFault before now done = tt

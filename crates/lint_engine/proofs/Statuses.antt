@@ -1,5 +1,5 @@
 -- The union of the messages' bits is below 32, the status of words that are refused.
-use Rattle.std.proofs.Common.{◌≡◌, ◌<◌, ◌↔◌, ◌^◌, ℕ, Bool, true, false, cond, List, [], ◌∷◌, subst, refl, sym, ◌∙◌, arith, bit_or}
+use Rattle.std.proofs.Common.{◌≡◌, ◌<◌, ◌↔◌, ◌^◌, ℕ, Bool, true, false, cond, List, [], ◌∷◌, subst, sym, ◌∙◌, arith, bit_or}
 use Rattle.std.specs.List.{fold}
 use Rattle.std.specs.Prelude.{Ok, IsErr}
 use Rattle.std.proofs.lemmas.Nat.{or_lt}

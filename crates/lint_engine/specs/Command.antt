@@ -1,25 +1,37 @@
 -- What a command promises, by its answer.
 use Rattle.std.specs.Prelude.{◌≡◌, ℕ, ◌↔◌, List, [], Option, Result, Ok, Err, IsErr, count_by}
+use Rattle.std.specs.List.{concat}
 use Rattle.lint_outside.specs.Causes.{RoseBy}
 use Rattle.lint_outside.specs.Sinks.{Appends, AppendsPrefix}
 use Rattle.lint_outside.specs.FileTree.{FileTree}
 use Rattle.lint_outside.specs.declared.outside.Question.{Question}
+use Rattle.lint_messages.specs.declared.message.Message.{Message}
 use Rattle.options.specs.declared.line.Line.{Line}
+use Rattle.options.specs.declared.settings.Options.{Options}
 use Rattle.options.specs.declared.usage.UsageFault.{UsageFault}
+use Rattle.options.specs.Settings.{options_of}
 use Rattle.options.specs.Words.{line_of}
+use Rattle.file_list.specs.declared.entry.Listed.{Listed}
 use Rattle.file_list.specs.Entries.{is_failed}
 use Rattle.file_list.specs.Gathered.{IsReadingOf}
 use Rattle.lint_report.specs.declared.outcome.OptionsRead.TheVariants.{NotLooked}
-use Rattle.lint_report.specs.declared.outcome.OptionsRead.{OptionsRead}
 use Rattle.lint_report.specs.declared.outcome.Whole.{Whole}
-use Rattle.lint_engine.specs.Output.{output_of, error_text_of, status_of}
+use Rattle.lint_report.specs.Report.{report, bits}
+use Rattle.lint_engine.specs.Shown.{IsShown}
+use Rattle.lint_engine.specs.Output.{IsShownBy, output_by, error_text_by, status_by}
 
--- The command ran: the sinks grew by the stated texts of the words and of what was read, where they tell, and the
--- status is the stated one.
+-- The command ran: the sinks grew by the stated texts of the words, of what was read and of the messages that are shown,
+-- where they tell, and the status is the stated one.
 pub record IsRun (words : List (List ℕ)) (read : Whole) (out_before out_now err_before err_now : Option (List ℕ)) (status : ℕ) : Type 0 where
-  pub printed : Appends out_before out_now (output_of words read)
-  pub reported : Appends err_before err_now (error_text_of words read)
-  pub status_is : status ≡ status_of words read
+  pub messages : List Message
+  pub shown : IsShownBy (line_of words) read messages
+  pub printed : Appends out_before out_now (output_by (line_of words) read messages)
+  pub reported : Appends err_before err_now (error_text_by (line_of words))
+  pub status_is : status ≡ status_by (line_of words) messages
+
+-- there is one list of messages that are shown, so what is printed and the status are a function of words and reading
+abbrev pub IsDetermined : List (List ℕ) → Whole → Type 0
+IsDetermined words read = (one other : List Message) → IsShownBy (line_of words) read one → IsShownBy (line_of words) read other → one ≡ other
 
 -- the status is 32 exactly where the words are refused
 abbrev pub IsRefused : List (List ℕ) → ℕ → Type 0
@@ -27,8 +39,10 @@ IsRefused words status = (status ≡ 32) ↔ IsErr (line_of words)
 
 -- A sink failed: each sink holds a first part of its stated text, where it tells.
 pub record IsStopped (words : List (List ℕ)) (read : Whole) (out_before out_now err_before err_now : Option (List ℕ)) : Type 0 where
-  pub printed : AppendsPrefix out_before out_now (output_of words read)
-  pub reported : AppendsPrefix err_before err_now (error_text_of words read)
+  pub messages : List Message
+  pub shown : IsShownBy (line_of words) read messages
+  pub printed : AppendsPrefix out_before out_now (output_by (line_of words) read messages)
+  pub reported : AppendsPrefix err_before err_now (error_text_by (line_of words))
 
 -- Memory ran out: nothing was written.
 pub record IsUnwritten (out_before out_now err_before err_now : Option (List ℕ)) : Type 0 where
@@ -48,3 +62,23 @@ pub record IsReadFrom (line : Result Line UsageFault) (tree : FileTree) (before 
 pub record HasReadCauses (count_before count_now : ℕ) (read : Whole) : Type 0 where
   pub failed : RoseBy (count_by is_failed read.list) count_before count_now
   pub options : read.options ≡ NotLooked
+
+-- A report of a reading: its lines and its status are those of the messages that are shown.
+pub record IsReport (options : Options) (reading : List Listed) (lines : List (List ℕ)) (status : ℕ) : Type 0 where
+  pub messages : List Message
+  pub shown : IsShown options reading messages
+  pub lines_are : lines ≡ report reading messages
+  pub status_is : status ≡ bits messages
+
+-- A report of the line's reading was printed whole.
+pub record IsPrinted (line : Line) (reading : List Listed) (before now : Option (List ℕ)) (status : ℕ) : Type 0 where
+  pub lines : List (List ℕ)
+  pub made : IsReport (options_of [] line.edits) reading lines status
+  pub printed : Appends before now (concat lines)
+
+-- A first part of a report of the line's reading was printed.
+pub record IsPartPrinted (line : Line) (reading : List Listed) (before now : Option (List ℕ)) : Type 0 where
+  pub lines : List (List ℕ)
+  pub status : ℕ
+  pub made : IsReport (options_of [] line.edits) reading lines status
+  pub printed : AppendsPrefix before now (concat lines)

@@ -1,4 +1,4 @@
 pub mod Answers
 pub mod Command
-pub mod Findings
 pub mod Output
+pub mod Shown

@@ -1,43 +1,31 @@
--- What is printed, and the status: a function of the words and of what was read.
-use Rattle.std.specs.Prelude.{ℕ, List, [], Result, Ok, Err}
+-- What is printed, and the status, by the words, what was read, and the messages that are shown of it.
+use Rattle.std.specs.Prelude.{◌≡◌, ℕ, List, [], Result, Ok, Err}
 use Rattle.std.specs.List.{concat}
 use Rattle.lint_messages.specs.declared.message.Message.{Message}
 use Rattle.options.specs.declared.line.Line.{Line}
 use Rattle.options.specs.declared.usage.UsageFault.{UsageFault}
-use Rattle.options.specs.Words.{line_of}
 use Rattle.options.specs.Settings.{options_of}
 use Rattle.lint_report.specs.declared.outcome.Whole.{Whole}
 use Rattle.lint_report.specs.Report.{report, bits}
 use Rattle.lint_report.specs.Usage.{usage_line}
-use Rattle.lint_engine.specs.Findings.{shown}
+use Rattle.lint_engine.specs.Shown.{IsShown}
 
--- the messages that are shown for this line
-abbrev pub findings_of : Line → Whole → List Message
-findings_of line read = shown (options_of [] line.edits).max_line_length read.list
+-- the messages that are shown: none for words that are refused
+abbrev pub IsShownBy : Result Line UsageFault → Whole → List Message → Type 0
+IsShownBy (Err fault) read messages = messages ≡ []
+IsShownBy (Ok line) read messages = IsShown (options_of [] line.edits) read.list messages
 
--- nothing is printed for words that are refused, and else the report
-abbrev pub output_by : Result Line UsageFault → Whole → List ℕ
-output_by (Err fault) read = []
-output_by (Ok line) read = concat (report read.list (findings_of line read))
+-- what is printed on standard output: nothing for words that are refused, and else the report
+abbrev pub output_by : Result Line UsageFault → Whole → List Message → List ℕ
+output_by (Err fault) read messages = []
+output_by (Ok line) read messages = concat (report read.list messages)
 
--- the refusal is printed as an error, and else nothing
+-- what is printed on standard error: the refusal, and else nothing
 abbrev pub error_text_by : Result Line UsageFault → List ℕ
 error_text_by (Err fault) = usage_line fault
 error_text_by (Ok line) = []
 
--- 32 for words that are refused, and else the union of the messages' bits
-abbrev pub status_by : Result Line UsageFault → Whole → ℕ
-status_by (Err fault) read = 32
-status_by (Ok line) read = bits (findings_of line read)
-
--- what is printed on standard output
-abbrev pub output_of : List (List ℕ) → Whole → List ℕ
-output_of words read = output_by (line_of words) read
-
--- what is printed on standard error
-abbrev pub error_text_of : List (List ℕ) → Whole → List ℕ
-error_text_of words read = error_text_by (line_of words)
-
--- the exit status
-abbrev pub status_of : List (List ℕ) → Whole → ℕ
-status_of words read = status_by (line_of words) read
+-- the exit status: 32 for words that are refused, and else the union of the messages' bits
+abbrev pub status_by : Result Line UsageFault → List Message → ℕ
+status_by (Err fault) messages = 32
+status_by (Ok line) messages = bits messages

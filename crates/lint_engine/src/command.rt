@@ -5,15 +5,12 @@ ghost use Rattle.std.specs.Option.{ForSome};
 ghost use Rattle.lint_outside.specs.Causes.{Rose, RoseBy};
 ghost use Rattle.lint_outside.specs.Sinks.{Appends, AppendsPrefix};
 ghost use Rattle.lint_report.specs.Usage.{usage_line};
-ghost use Rattle.lint_report.specs.Report.{report, bits};
 ghost use Rattle.options.specs.Usage.{is_memory};
 ghost use Rattle.options.specs.Words.{line_of};
 ghost use Rattle.file_list.specs.Entries.{is_failed, IsOnePath};
 ghost use Rattle.file_list.specs.Gathered.{IsReadingOf};
-ghost use Rattle.lint_engine.specs.Findings.{shown};
 ghost use Rattle.lint_engine.specs.Answers.{OnRan, OnSinkFault, OnMemory, OnWritten};
-ghost use Rattle.lint_engine.specs.Output.{findings_of};
-ghost use Rattle.lint_engine.specs.Command.{IsRun, IsStopped, IsUnwritten, IsReadFrom, HasReadCauses, IsRefused};
+ghost use Rattle.lint_engine.specs.Command.{IsRun, IsDetermined, IsStopped, IsUnwritten, IsReadFrom, HasReadCauses, IsRefused, IsReport, IsPrinted, IsPartPrinted};
 
 use crate::list::lint_list;
 use crate::writing::write_lines;
@@ -39,8 +36,7 @@ fn report_of<R: Threads + Sync, G: Gate>(
     reading: &Reading,
     gate: &G,
 ) -> Result<Report, Memory>
-    ensures lines { IfOk result (λ made. made.lines ≡ report reading.now (shown options.now.max_line_length reading.now)) }
-    ensures status { IfOk result (λ made. made.status ≡ bits (shown options.now.max_line_length reading.now)) }
+    ensures { IfOk result (λ made. IsReport options.now reading.now made.lines made.status) }
 {
     let found = lint_list(rt, alloc, reading, options, gate)?;
     let lines = text(alloc, reading, &found, options)?;
@@ -122,10 +118,9 @@ fn lint_line<R: Threads + Sync, F: Files, O: Sink, G: Gate>(
     gate: &G,
 ) -> Outcome
     requires { IsOnePath line.now.files }
-    ensures status { OnRan result.answer (λ status. status ≡ bits (findings_of line.now result.read)) }
-    ensures text { OnRan result.answer (λ _. Appends (O.written out.old) (O.written out.new) (concat (report result.read.list (findings_of line.now result.read)))) }
+    ensures printed { OnRan result.answer (IsPrinted line.now result.read.list (O.written out.old) (O.written out.new)) }
     ensures cause { OnSinkFault result.answer (Rose (O.faults out.old) (O.faults out.new)) }
-    ensures prefix { OnSinkFault result.answer (AppendsPrefix (O.written out.old) (O.written out.new) (concat (report result.read.list (findings_of line.now result.read)))) }
+    ensures part { OnSinkFault result.answer (IsPartPrinted line.now result.read.list (O.written out.old) (O.written out.new)) }
     ensures nothing { OnMemory result.answer (O.written out.new ≡ O.written out.old) }
     ensures read { ForSome (F.held files.old) (λ tree. OnWritten result.answer (IsReadingOf tree (F.failed files.old) (F.failed files.new) (F.faults files.old) (F.faults files.new) line.now.files result.read.list)) }
     ensures failed { RoseBy (count_by is_failed result.read.list) (F.faults files.old) (F.faults files.new) }
@@ -164,8 +159,11 @@ pub fn lint_command<R: Threads + Sync, F: Files, O: Sink, E: Sink, G: Gate>(
     err: &mut E,
     gate: &G,
 ) -> Outcome
-    // What is printed and the status are the stated function of the words and of what was read.
+    // What is printed and the status are the stated ones of the words, of what was read, and of the messages shown of it.
     ensures ran { OnRan result.answer (IsRun words.now result.read (O.written out.old) (O.written out.new) (E.written err.old) (E.written err.new)) }
+
+    // These messages are the only ones, so what is printed and the status are a function of the words and of what was read.
+    ensures determined { IsDetermined words.now result.read }
 
     // The status 32 says that the words are refused, and no other status does.
     ensures refused { OnRan result.answer (IsRefused words.now) }

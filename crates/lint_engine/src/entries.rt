@@ -1,6 +1,6 @@
 // The messages of an entry.
 ghost use Rattle.std.specs.Prelude.{◌≡◌, [], ◌∷◌, IfOk};
-ghost use Rattle.lint_engine.specs.Findings.{unread, entry_messages};
+ghost use Rattle.lint_engine.specs.Shown.{unread, IsEntryShown};
 ghost use Rattle.file_list.specs.Entries.{HasShortSource};
 
 use crate::source::{check_source, message_at, one_message, one_text};
@@ -26,7 +26,7 @@ pub(crate) fn check_entry(
     options: &Options,
 ) -> Result<Messages, Memory>
     requires { HasShortSource listed.now.entry }
-    ensures { IfOk result (λ messages. messages ≡ entry_messages options.now.max_line_length file listed.now.path listed.now.entry) }
+    ensures { IfOk result (λ messages. IsEntryShown options.now file listed.now.path listed.now.entry messages) }
 {
     match &listed.entry {
         Entry::Source(bytes) => Ok(check_source(alloc, file, bytes.as_slice(), options)?),

@@ -1,6 +1,6 @@
 // The messages of a whole reading.
 ghost use Rattle.std.specs.Prelude.{◌≡◌, IfOk};
-ghost use Rattle.lint_engine.specs.Findings.{shown};
+ghost use Rattle.lint_engine.specs.Shown.{IsShown};
 
 use crate::entries::check_entry;
 use file_list::Reading;
@@ -18,7 +18,7 @@ pub fn lint_list<R: Threads + Sync, G: Gate>(
     options: &Options,
     gate: &G,
 ) -> Result<Findings, Memory>
-    ensures messages { IfOk result (λ findings. findings.messages ≡ shown options.now.max_line_length reading.now) }
+    ensures messages { IfOk result (λ findings. IsShown options.now reading.now findings.messages) }
     ensures statements { IfOk result (λ findings. findings.statements ≡ 0) }
 {
     let mut messages = Messages::new(alloc);

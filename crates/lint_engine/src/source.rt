@@ -1,13 +1,13 @@
-// The messages of a source.
-ghost use Rattle.std.specs.Prelude.{◌≡◌, ◌<◌, ◌≤◌, ◌^◌, ◌-◌, [], ◌∷◌, length, IfOk, IfSome};
+// The messages of a file's bytes.
+ghost use Rattle.std.specs.Prelude.{◌≡◌, ◌<◌, ◌^◌, [], ◌∷◌, length, IfOk};
 ghost use Rattle.std.specs.Fmt.{decimal};
 ghost use Rattle.check_basic.specs.LineRules.{message};
-ghost use Rattle.lint_engine.specs.Findings.{not_utf8, first_bad, source_entry};
+ghost use Rattle.lint_engine.specs.Shown.{reason_of, syntax_error, IsSourceShown};
 
 use check_basic::check_lines;
-use check_basic::lines::{place_behind, source_of};
 use lint_base::{Code, FileId, Memory, Message, Messages, Pos, Text, Texts};
 use options::Options;
+use py_token::{TokenCause, TokenFault, tokenize};
 use std::alloc::Global;
 
 // A message at a place, with its arguments.
@@ -45,26 +45,33 @@ fn number_text(alloc: Global, n: u32) -> Result<Text, Memory>
     Ok(Text::from_string(format!(in alloc; "{n}")?))
 }
 
-// A source that is no UTF-8, by its valid front.
-fn not_utf8(alloc: Global, file: FileId, front: &[u8]) -> Result<Message, Memory>
-    requires { length front.now < 2 ^ 32 - 1 }
-    ensures { IfOk result (λ m. m ≡ not_utf8 file front.now) }
+// Why a source can't be read as tokens.
+fn reason_of(cause: TokenCause) -> &'static str
+    ensures { result.now ≡ reason_of cause }
 {
-    let pos = place_behind(front);
-    let mut args = one_text(alloc, "source is not UTF-8")?;
-    args.push(number_text(alloc, pos.line)?)?;
-    Ok(message_at(file, pos, Code::SyntaxError, args))
+    match cause {
+        TokenCause::NotUtf8 => "source is not UTF-8",
+        TokenCause::NulByte => "source has a NUL byte",
+        TokenCause::Coding => "another encoding is named",
+        TokenCause::BadChar => "invalid character",
+        TokenCause::OpenString => "string is not closed",
+        TokenCause::OpenBracket => "bracket is not closed",
+        TokenCause::CloseBracket => "unmatched closing bracket",
+        TokenCause::Dedent => "indentation matches no outer level",
+        TokenCause::TabMix => "inconsistent tabs and spaces",
+        TokenCause::TooDeep => "too many levels",
+        TokenCause::BadNumber => "invalid number",
+        TokenCause::Continuation => "nothing may follow a backslash",
+    }
 }
 
-// Where the first byte stands that is no text.
-fn first_bad(bytes: &[u8]) -> Option<usize>
-    ensures bad { result ≡ first_bad bytes.now }
-    ensures within { IfSome result (λ place. place < length bytes.now) }
+// The message on the first fault of a source's tokens.
+fn syntax_error(alloc: Global, file: FileId, pos: Pos, cause: TokenCause) -> Result<Message, Memory>
+    ensures { IfOk result (λ m. m ≡ syntax_error file pos cause) }
 {
-    match std::str::from_utf8(bytes) {
-        Ok(_) => None,
-        Err(error) => Some(error.valid_up_to()),
-    }
+    let mut args = one_text(alloc, reason_of(cause))?;
+    args.push(number_text(alloc, pos.line)?)?;
+    Ok(message_at(file, pos, Code::SyntaxError, args))
 }
 
 // The messages of a file's bytes.
@@ -75,14 +82,14 @@ pub(crate) fn check_source(
     options: &Options,
 ) -> Result<Messages, Memory>
     requires { length bytes.now < 2 ^ 32 }
-    ensures { IfOk result (λ messages. messages ≡ source_entry options.now.max_line_length file bytes.now) }
+    ensures { IfOk result (λ messages. IsSourceShown options.now file bytes.now messages) }
 {
-    let source = source_of(bytes);
-    match first_bad(source) {
-        None => Ok(check_lines(alloc, file, bytes, options)?),
-        Some(place) => {
-            let message = not_utf8(alloc, file, &source[..place])?;
+    match tokenize(alloc, bytes) {
+        Ok(_tokens) => Ok(check_lines(alloc, file, bytes, options)?),
+        Err(TokenFault::At(pos, cause)) => {
+            let message = syntax_error(alloc, file, pos, cause)?;
             Ok(one_message(alloc, message)?)
         }
+        Err(TokenFault::Memory) => Err(Memory),
     }
 }

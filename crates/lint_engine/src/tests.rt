@@ -57,8 +57,8 @@ fn a_file_is_reported(rt: HostRuntime) -> Result<(), Fail> {
         ),
         (
             "e.py",
-            b"X = '\xc3\xa9' \t\x0b\r\nY = 1\r",
-            "************* Module e\ne.py:1:7: C0303: Trailing whitespace (trailing-whitespace)\n",
+            b"X = '\xc3\xa9'  # \t\x0b\r\nY = 1\r",
+            "************* Module e\ne.py:1:10: C0303: Trailing whitespace (trailing-whitespace)\n",
             16,
         ),
         (
@@ -91,6 +91,99 @@ fn a_file_is_reported(rt: HostRuntime) -> Result<(), Fail> {
         runs(&rt, alloc, &[path], &mut files, printed, "", status)?;
     }
     Ok(())
+}
+
+// The line that a syntax error at this place prints, under its module line.
+fn syntax_error(alloc: Global, line: u32, col: u32, reason: &str) -> Result<String, Fail> {
+    Ok(format!(in alloc;
+        "************* Module t\nt.py:{line}:{col}: E0001: Parsing failed: '{reason} (line {line})' (syntax-error)\n"
+    )?)
+}
+
+#[test]
+fn the_first_fault_of_the_tokens_is_told_alone(rt: HostRuntime) -> Result<(), Fail> {
+    let alloc = rt.alloc();
+    let rows: [(&[u8], u32, u32, &str); 14] = [
+        (
+            b"if X:\n        A = 1\n\tB = 2\n",
+            3,
+            0,
+            "inconsistent tabs and spaces",
+        ),
+        (b"x = \"abc\n", 1, 4, "string is not closed"),
+        (b")\n", 1, 0, "unmatched closing bracket"),
+        (b"x = 1_\n", 1, 4, "invalid number"),
+        (b"x = (\n", 1, 4, "bracket is not closed"),
+        (b"X = 1 \nY\0\n", 2, 1, "source has a NUL byte"),
+        (
+            b"# coding: latin-1\nX = '\xc3\xa9'\n",
+            1,
+            0,
+            "another encoding is named",
+        ),
+        (b"X = ?\n", 1, 4, "invalid character"),
+        (b"X = '\xc3\xa9' ?\n", 1, 9, "invalid character"),
+        (
+            b"if X:\n    A = 1\n  B = 2\n",
+            3,
+            0,
+            "indentation matches no outer level",
+        ),
+        (b"X = \\ 1\n", 1, 4, "nothing may follow a backslash"),
+        (b"X = [1)\n", 1, 6, "unmatched closing bracket"),
+        (b"x = (\ny = '\n", 2, 4, "string is not closed"),
+        (b"X = b'\xc3\xa9'\n", 1, 6, "invalid character"),
+    ];
+    for (source, line, col, reason) in rows {
+        let mut files = held(alloc, "t.py", source)?;
+        let printed = syntax_error(alloc, line, col, reason)?;
+        runs(&rt, alloc, &["t.py"], &mut files, printed.as_str(), "", 2)?;
+    }
+    Ok(())
+}
+
+// So many brackets, a name between them, and as many closed.
+fn nested(alloc: Global, depth: usize) -> Result<Vec<u8>, Fail> {
+    let mut source = Vec::new(alloc);
+    for _ in 0..depth {
+        source.push(b'(')?;
+    }
+    source.push(b'x')?;
+    for _ in 0..depth {
+        source.push(b')')?;
+    }
+    source.push(b'\n')?;
+    Ok(source)
+}
+
+#[test]
+fn brackets_may_nest_so_deep(rt: HostRuntime) -> Result<(), Fail> {
+    let alloc = rt.alloc();
+    let mut files = held(alloc, "t.py", &nested(alloc, 49)?)?;
+    runs(&rt, alloc, &["t.py"], &mut files, "", "", 0)?;
+    let mut files = held(alloc, "t.py", &nested(alloc, 201)?)?;
+    let printed = syntax_error(alloc, 1, 200, "too many levels")?;
+    runs(&rt, alloc, &["t.py"], &mut files, printed.as_str(), "", 2)
+}
+
+// So many lines of one comment sign.
+fn comment_lines(alloc: Global, count: usize) -> Result<Vec<u8>, Fail> {
+    let mut source = Vec::new(alloc);
+    for _ in 0..count {
+        source.extend_from_slice(b"#\n")?;
+    }
+    Ok(source)
+}
+
+#[test]
+fn a_long_module_is_reported(rt: HostRuntime) -> Result<(), Fail> {
+    let alloc = rt.alloc();
+    let mut files = held(alloc, "m.py", &comment_lines(alloc, 1000)?)?;
+    runs(&rt, alloc, &["m.py"], &mut files, "", "", 0)?;
+    let mut files = held(alloc, "m.py", &comment_lines(alloc, 1001)?)?;
+    let printed =
+        "************* Module m\nm.py:1:0: C0302: Too many lines in module (1001/1000) (too-many-lines)\n";
+    runs(&rt, alloc, &["m.py"], &mut files, printed, "", 16)
 }
 
 // A line of `#` and this many `x`, behind a docstring.

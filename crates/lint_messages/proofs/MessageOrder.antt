@@ -9,7 +9,7 @@ use Rattle.std.specs.declared.cmp.Ordering.TheVariants.{Less, Equal, Greater}
 use Rattle.std.specs.Ordering.{nat_cmp, ordering_then, MatchOrdering}
 use Rattle.lint_values.specs.declared.place.NodeId.{NodeId}
 use Rattle.lint_messages.specs.declared.code.Code.{Code}
-use Rattle.lint_messages.specs.declared.code.Code.TheVariants.{LineTooLong, TrailingWhitespace, MissingFinalNewline, SyntaxError, Fatal, ParseError}
+use Rattle.lint_messages.specs.declared.code.Code.TheVariants.{LineTooLong, TooManyLines, TrailingWhitespace, MissingFinalNewline, SyntaxError, Fatal, ParseError}
 use Rattle.lint_messages.specs.declared.code.TheConstants.{ALL_CODES}
 use Rattle.lint_messages.specs.declared.message.Message.{Message}
 use Rattle.lint_messages.specs.Codes.{letters}
@@ -54,6 +54,7 @@ code_of text = find (λ code. bytes_eq (letters code) text) ALL_CODES
 
 code_of_letters : (code : Code) → code_of (letters code) ≡ Some code
 code_of_letters LineTooLong = refl
+code_of_letters TooManyLines = refl
 code_of_letters TrailingWhitespace = refl
 code_of_letters MissingFinalNewline = refl
 code_of_letters SyntaxError = refl

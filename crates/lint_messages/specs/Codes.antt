@@ -1,11 +1,12 @@
 -- The letters, symbol, category and exit bit of each message, as pylint's reference has them.
 use Rattle.std.specs.Prelude.{ℕ, List, codes, if◌then◌else◌, ◌==◌, slice_index}
 use Rattle.lint_messages.specs.declared.code.Code.{Code}
-use Rattle.lint_messages.specs.declared.code.Code.TheVariants.{LineTooLong, TrailingWhitespace, MissingFinalNewline, SyntaxError, Fatal, ParseError}
+use Rattle.lint_messages.specs.declared.code.Code.TheVariants.{LineTooLong, TooManyLines, TrailingWhitespace, MissingFinalNewline, SyntaxError, Fatal, ParseError}
 
 -- the category's letter and four digits
 abbrev pub letters : Code → List ℕ
 letters LineTooLong = codes "C0301"
+letters TooManyLines = codes "C0302"
 letters TrailingWhitespace = codes "C0303"
 letters MissingFinalNewline = codes "C0304"
 letters SyntaxError = codes "E0001"
@@ -15,6 +16,7 @@ letters ParseError = codes "F0010"
 -- the name in words
 abbrev pub symbol : Code → List ℕ
 symbol LineTooLong = codes "line-too-long"
+symbol TooManyLines = codes "too-many-lines"
 symbol TrailingWhitespace = codes "trailing-whitespace"
 symbol MissingFinalNewline = codes "missing-final-newline"
 symbol SyntaxError = codes "syntax-error"

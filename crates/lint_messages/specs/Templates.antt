@@ -1,12 +1,13 @@
 -- The text of each message: words, with an argument between any two of them.
 use Rattle.std.specs.Prelude.{ℕ, List, [], ◌∷◌, ◌++◌, drop, codes}
 use Rattle.lint_messages.specs.declared.code.Code.{Code}
-use Rattle.lint_messages.specs.declared.code.Code.TheVariants.{LineTooLong, TrailingWhitespace, MissingFinalNewline, SyntaxError, Fatal, ParseError}
+use Rattle.lint_messages.specs.declared.code.Code.TheVariants.{LineTooLong, TooManyLines, TrailingWhitespace, MissingFinalNewline, SyntaxError, Fatal, ParseError}
 use Rattle.lint_messages.specs.declared.message.Message.{Message}
 
 -- the words of a text
 abbrev pub template : Code → List (List ℕ)
 template LineTooLong = codes "Line too long (" ∷ codes "/" ∷ codes ")" ∷ []
+template TooManyLines = codes "Too many lines in module (" ∷ codes "/" ∷ codes ")" ∷ []
 template TrailingWhitespace = codes "Trailing whitespace" ∷ []
 template MissingFinalNewline = codes "Final newline missing" ∷ []
 template SyntaxError = codes "Parsing failed: '" ∷ codes " (line " ∷ codes ")'" ∷ []

@@ -6,6 +6,7 @@ ghost use Rattle.lint_messages.specs.Codes.{letters, symbol, category, bit};
 #[derive(Clone, Copy, Debug, PartialEq, Eq, PartialOrd, Ord)]
 pub enum Code {
     LineTooLong,
+    TooManyLines,
     TrailingWhitespace,
     MissingFinalNewline,
     SyntaxError,
@@ -14,8 +15,9 @@ pub enum Code {
 }
 
 /// All codes, in their order.
-pub const ALL_CODES: [Code; 6] = [
+pub const ALL_CODES: [Code; 7] = [
     Code::LineTooLong,
+    Code::TooManyLines,
     Code::TrailingWhitespace,
     Code::MissingFinalNewline,
     Code::SyntaxError,
@@ -30,6 +32,7 @@ impl Code {
     {
         match self {
             Code::LineTooLong => "C0301",
+            Code::TooManyLines => "C0302",
             Code::TrailingWhitespace => "C0303",
             Code::MissingFinalNewline => "C0304",
             Code::SyntaxError => "E0001",
@@ -44,6 +47,7 @@ impl Code {
     {
         match self {
             Code::LineTooLong => "line-too-long",
+            Code::TooManyLines => "too-many-lines",
             Code::TrailingWhitespace => "trailing-whitespace",
             Code::MissingFinalNewline => "missing-final-newline",
             Code::SyntaxError => "syntax-error",
@@ -57,7 +61,10 @@ impl Code {
         ensures { result ≡ category self }
     {
         match self {
-            Code::LineTooLong | Code::TrailingWhitespace | Code::MissingFinalNewline => 'C',
+            Code::LineTooLong
+            | Code::TooManyLines
+            | Code::TrailingWhitespace
+            | Code::MissingFinalNewline => 'C',
             Code::SyntaxError => 'E',
             Code::Fatal | Code::ParseError => 'F',
         }

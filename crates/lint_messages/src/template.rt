@@ -13,6 +13,7 @@ fn template(code: Code) -> &'static [&'static str]
 {
     match code {
         Code::LineTooLong => &["Line too long (", "/", ")"],
+        Code::TooManyLines => &["Too many lines in module (", "/", ")"],
         Code::TrailingWhitespace => &["Trailing whitespace"],
         Code::MissingFinalNewline => &["Final newline missing"],
         Code::SyntaxError => &["Parsing failed: '", " (line ", ")'"],

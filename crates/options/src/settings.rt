@@ -11,6 +11,8 @@ use std::alloc::Global;
 pub struct Options {
     /// The most characters that a line may have.
     pub max_line_length: u32,
+    /// The most physical lines that a module may have.
+    pub max_module_lines: u32,
 }
 
 impl Options {
@@ -20,6 +22,7 @@ impl Options {
     {
         Ok(Options {
             max_line_length: 100,
+            max_module_lines: 1000,
         })
     }
 }

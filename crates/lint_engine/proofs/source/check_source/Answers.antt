@@ -1,7 +1,11 @@
-use Rattle.lint_engine.proofs.Findings.{bad_source}
+use Rattle.lint_engine.proofs.ShownLaws.{faulty_source, read_source}
 use Rattle.lint_engine.proofs.source.check_source.Goals as goal
 
-pub returns-in_ok-one_message-in-Some : goal.returns-in_ok-one_message-in-Some
-returns-in_ok-one_message-in-Some c =
-    bad_source c.args.options.now.max_line_length c.args.file c.args.bytes.now c.source_of-source.result.now c.in-Some.place c.in_ok-message-in-Some.message c.in_ok-one_message-in-Some.field-0
-    c.source_of-source.ensures.source c.in-Some.ensures.bad c.in_ok-message-in-Some.ensures c.in_ok-one_message-in-Some.ensures
+pub returns-in_ok-check_lines-in-Ok : goal.returns-in_ok-check_lines-in-Ok
+returns-in_ok-check_lines-in-Ok c = read_source c.args.options.now c.args.file c.args.bytes.now _ _ c.in-Ok.ensures.tokens c.in_ok-check_lines-in-Ok.ensures
+
+pub returns-in_ok-one_message-in-Err-At : goal.returns-in_ok-one_message-in-Err-At
+returns-in_ok-one_message-in-Err-At c =
+    let first = rw c.in-Err-At.field-0-is at c.in-Err-At.ensures.fault in
+    faulty_source c.args.options.now c.args.file c.args.bytes.now c.in-Err-At.pos c.in-Err-At.cause c.in_ok-message-in-Err-At.message c.in_ok-one_message-in-Err-At.field-0
+    first c.in_ok-message-in-Err-At.ensures c.in_ok-one_message-in-Err-At.ensures
