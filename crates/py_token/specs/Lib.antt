@@ -1,4 +1,5 @@
 pub mod FirstFault
+pub mod Forms
 pub mod Items
 pub mod Scanned
 pub mod Spans

@@ -2,6 +2,7 @@
 #![tactic(auto)]
 
 mod fault;
+mod forms;
 mod item;
 mod scan;
 mod token;

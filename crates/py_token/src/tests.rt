@@ -95,3 +95,34 @@ fn a_token_is_a_slice_of_the_source(rt: HostRuntime) -> Result<(), Fail> {
     }
     Ok(())
 }
+
+/// The first token of the source is a name with this normal form.
+fn begins_with_name(rt: &impl Abort, alloc: Global, source: &str, form: &str) {
+    assert!(rt; source.len() < 1000);
+    match tokenize(alloc, source.as_bytes()) {
+        Ok(read) => {
+            assert!(rt; read.count() > 0);
+            let token = read.token(0);
+            match token.kind {
+                TokenKind::Name => assert_eq!(rt; read.name(0), form, "{source}"),
+                _ => assert!(rt; false, "{source}"),
+            }
+        }
+        Err(_) => assert!(rt; false, "{source}"),
+    }
+}
+
+#[test]
+fn names_have_their_normal_forms(rt: HostRuntime) -> Result<(), Fail> {
+    let rows = [
+        ("match = 1\n", "match"),
+        ("\u{210c} = 1\n", "H"),
+        ("e\u{301}t = 1\n", "\u{e9}t"),
+        ("\u{fb01}n(1)\n", "fin"),
+        ("\u{ff49}\u{ff46} = 1\n", "if"),
+    ];
+    for (source, form) in rows {
+        begins_with_name(&rt, rt.alloc(), source, form);
+    }
+    Ok(())
+}

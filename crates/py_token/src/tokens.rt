@@ -1,7 +1,9 @@
 // The tokens of a source.
 ghost use Rattle.std.specs.Prelude.{◌≡◌, ◌<◌, length, slice_get, Some, IfSome};
 ghost use Rattle.py_source.specs.Spans.{bytes_of};
+ghost use Rattle.py_token.specs.declared.token.TokenKind.TheVariants.{Name};
 
+use crate::forms::Forms;
 use crate::token::{Comment, Token};
 use py_layout::Logical;
 use py_source::{Span, slice};
@@ -15,20 +17,24 @@ pub struct Tokens<'a> {
     lines: Vec<Logical>,
     comments: Vec<Comment>,
     physical: Vec<Span>,
+    forms: Forms,
 }
 
 impl<'a> Model for Tokens<'a> {
     ghost use Rattle.py_token.specs.Tokenized.{Tokenized};
+    ghost use Rattle.py_token.specs.Forms.{HasForms};
     ghost use Rattle.py_token.specs.Spans.{AreParts};
 
     ghost Value = { Tokenized };
 
     ghost view = { λ t. record { text = t.text.now; tokens = t.tokens.items; lines = t.lines.items; comments = t.comments.items; physical = t.physical.items } };
 
-    ghost invariant = { λ t. AreParts t.text.now t.tokens.items };
+    ghost invariant = { λ t. AreParts t.text.now t.tokens.items × HasForms t.text.now t.tokens.items t.forms };
 }
 
 impl<'a> Tokens<'a> {
+    ghost use Rattle.py_normal_form.specs.NormalForm.{normal_form_of};
+    ghost use Rattle.py_token.specs.Forms.{HasForms};
     ghost use Rattle.py_token.specs.Spans.{AreParts, span_of};
 
     pub(crate) fn new(
@@ -37,8 +43,10 @@ impl<'a> Tokens<'a> {
         lines: Vec<Logical>,
         comments: Vec<Comment>,
         physical: Vec<Span>,
+        forms: Forms,
     ) -> Tokens<'a>
-        requires { AreParts text.now tokens.items }
+        requires parts { AreParts text.now tokens.items }
+        requires forms { HasForms text.now tokens.items forms }
         ensures { result ≡ record { text = text.now; tokens = tokens.items; lines = lines.items; comments = comments.items; physical = physical.items } }
     {
         Tokens {
@@ -47,6 +55,7 @@ impl<'a> Tokens<'a> {
             lines,
             comments,
             physical,
+            forms,
         }
     }
 
@@ -78,6 +87,18 @@ impl<'a> Tokens<'a> {
                 end: token.end,
             },
         )
+    }
+
+    /// The normal form NFKC of a name, by which names are compared: the slice of the source where that is its own form.
+    pub fn name(&self, i: usize) -> &str
+        requires within { i < length self.now.tokens }
+        requires name { IfSome (slice_get self.now.tokens i) (λ token. token.kind ≡ Name) }
+        ensures { IfSome (slice_get self.now.tokens i) (λ token. result.now ≡ normal_form_of (bytes_of self.now.text (span_of token))) }
+    {
+        match self.forms.get(&i) {
+            Some(form) => form.as_str(),
+            None => self.text(i),
+        }
     }
 
     /// The logical lines, by the numbers of their tokens.

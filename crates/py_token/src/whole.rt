@@ -14,6 +14,7 @@ ghost use Rattle.py_token.specs.Tokenized.{FaultsOnly, GivesOnly, IsRead, IsToke
 ghost use Rattle.py_token.specs.declared.fault.TokenCause.{TokenCause};
 
 use crate::fault::{TokenCause, TokenFault, source_cause, text_cause};
+use crate::forms::forms_of;
 use crate::scan::{Scanned, scan};
 use crate::token::{Comment, Token};
 use crate::tokens::Tokens;
@@ -123,7 +124,8 @@ fn finish<'a>(
     ensures physical { IfOk result (λ read. ArePhysical text.now read.physical) }
 {
     let physical = physical(alloc, text)?;
-    Ok(Tokens::new(text, tokens, lines, comments, physical))
+    let forms = forms_of(alloc, text, tokens.as_slice())?;
+    Ok(Tokens::new(text, tokens, lines, comments, physical, forms))
 }
 
 /// Reads a text that is cut so.
