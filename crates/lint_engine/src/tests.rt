@@ -1,6 +1,8 @@
 // The worked rows of the first path, over files and sinks in memory.
 use crate::{Answer, lint_command};
+use file_list::Reading;
 use lint_base::{Calls, FailingFiles, FailingSink, Files, MemFiles, MemSink, OpenGate, Text};
+use options::{Edits, Options};
 use std::alloc::Global;
 use std::process::Abort;
 use std::test::Fail;
@@ -310,5 +312,16 @@ fn a_failing_write_leaves_a_first_part(rt: HostRuntime) -> Result<(), Fail> {
     assert_eq!(rt; outcome.answer, Answer::SinkFault);
     assert_eq!(rt; out.bytes(), b"".as_slice());
     assert_eq!(rt; err.bytes(), b"p".as_slice());
+    Ok(())
+}
+
+// What may be lent to a thread and handed to one.
+fn crosses_threads<T: Send + Sync>(_value: &T) {}
+
+#[test]
+fn what_workers_share_crosses_threads(rt: HostRuntime) -> Result<(), Fail> {
+    let alloc = rt.alloc();
+    crosses_threads(&Reading::new(alloc));
+    crosses_threads(&Options::of(alloc, &Edits::new(alloc), &Edits::new(alloc))?);
     Ok(())
 }
