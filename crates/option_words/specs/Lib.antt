@@ -1,0 +1,2 @@
+pub mod OptionNames
+pub mod Values
