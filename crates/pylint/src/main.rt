@@ -1,6 +1,9 @@
 // The command `pylint`.
 #![tactic(auto)]
 
+ghost use Rattle.std.specs.Prelude.{◌≡◌};
+ghost use Rattle.pylint.specs.Status.{exit_status};
+
 use lint_base::{OpenGate, RealFiles, RealSink, Text};
 use lint_engine::{Answer, lint_command};
 use std::io::ErrorKind;
@@ -20,6 +23,16 @@ fn words(rt: &HostRuntime) -> io::Result<Vec<Text>> {
         words.push(Text::from_string(word))?;
     }
     Ok(words)
+}
+
+fn exit_status(answer: Answer) -> u8
+    ensures { result ≡ exit_status answer }
+{
+    match answer {
+        Answer::Ran(status) => status,
+        Answer::Memory => WANT_OF_MEMORY,
+        Answer::SinkFault => WRITE_FAULT,
+    }
 }
 
 fn main(rt: HostRuntime) -> ExitCode {
@@ -42,9 +55,5 @@ fn main(rt: HostRuntime) -> ExitCode {
         &mut err,
         &OpenGate,
     );
-    match outcome.answer {
-        Answer::Ran(status) => ExitCode::from(status),
-        Answer::Memory => ExitCode::from(WANT_OF_MEMORY),
-        Answer::SinkFault => ExitCode::from(WRITE_FAULT),
-    }
+    ExitCode::from(exit_status(outcome.answer))
 }
