@@ -39,6 +39,14 @@ Times a (suc n) = Then a (Times a n)
 abbrev pub Many : {T : Type 0} → Language T → Language T
 Many a ts out = (n : ℕ) × Times a n ts out
 
+-- one time or more
+abbrev pub Some : {T : Type 0} → Language T → Language T
+Some a = Then a (Many a)
+
+-- the first, and where that has no reading the second
+abbrev pub Preferred : {T : Type 0} → Language T → Language T → Language T
+Preferred a b ts out = a ts out ⊎ (b ts out × ((other : List Tree) → a ts other → ⊥))
+
 -- a token of the set, which is a node without kids
 pub record Shown {T : Type 0} (code : T → ℕ) (node_of : T → Node) (set : List ℕ) (ts : List T) (out : List Tree) : Type 0 where
   pub token : T
@@ -66,6 +74,10 @@ Where test a ts out = a ts out × (test out ≡ true)
 -- items with separators between them, and maybe one behind them
 abbrev pub Separated : {T : Type 0} → Language T → Language T → Language T
 Separated separator a = Then a (Then (Many (Then separator a)) (Maybe separator))
+
+-- between two tokens that make no node
+abbrev pub Bracketed : {T : Type 0} → (T → ℕ) → List ℕ → List ℕ → Language T → Language T
+Bracketed code opening closing a = Then (Skipped code opening) (Then a (Skipped code closing))
 
 -- so many steps to the left of what follows, from a first phrase
 abbrev pub Steps : {T : Type 0} → (Language T → Language T) → Language T → ℕ → Language T

@@ -1,6 +1,6 @@
 -- Readers: what reads a list of tokens from the front, and chooses by the token there. They only serve the laws on
 -- languages, as the plain meaning of a parser.
-use Rattle.std.specs.Prelude.{ℕ, ◌-◌, Bool, List, [], ◌∷◌, ◌++◌, length, take, if◌then◌else◌}
+use Rattle.std.specs.Prelude.{ℕ, zero, suc, ◌-◌, Bool, false, List, [], ◌∷◌, ◌++◌, length, take, if◌then◌else◌}
 use Rattle.tree_nodes.specs.Trees.{Node, none, Tree}
 use Rattle.py_language.specs.Sets.{mem, at}
 
@@ -60,3 +60,92 @@ filter test (got u rest) = if test u then got u rest else fails
 
 abbrev pub where_ : {T : Type 0} → (List Tree → Bool) → Reader T → Reader T
 where_ test p ts = filter test (p ts)
+
+-- ---- again and again
+
+-- as often as the front token is in the set, at most so many times
+abbrev pub times : {T : Type 0} → (T → ℕ) → List ℕ → Reader T → ℕ → Reader T
+times code set p zero = nothing
+times code set p (suc n) = choose code set (both p (times code set p n)) nothing
+
+abbrev pub many : {T : Type 0} → (T → ℕ) → List ℕ → Reader T → Reader T
+many code set p ts = times code set p (length ts) ts
+
+abbrev pub some : {T : Type 0} → (T → ℕ) → List ℕ → Reader T → Reader T
+some code set p = both p (many code set p)
+
+-- the items behind a separator, at most so many; an item begins in the set
+abbrev pub more_items : {T : Type 0} → (T → ℕ) → List ℕ → List ℕ → Reader T → ℕ → Reader T
+more_items code separator set p zero = nothing
+more_items code separator set p (suc n) =
+    choose code separator (both (skipped code separator) (choose code set (both p (more_items code separator set p n)) nothing)) nothing
+
+abbrev pub separated : {T : Type 0} → (T → ℕ) → List ℕ → List ℕ → Reader T → Reader T
+separated code separator set p = both p (λ ts. more_items code separator set p (length ts) ts)
+
+abbrev pub bracketed : {T : Type 0} → (T → ℕ) → List ℕ → List ℕ → Reader T → Reader T
+bracketed code opening closing p = both (skipped code opening) (both p (skipped code closing))
+
+-- ---- a choice by two tokens
+
+-- the front token is in the one set and the next in the other
+abbrev pub at_two : {T : Type 0} → (T → ℕ) → List ℕ → List ℕ → List T → Bool
+at_two code one two [] = false
+at_two code one two (t ∷ ts) = if mem (code t) one then at code two ts else false
+
+abbrev pub choose_by_two : {T : Type 0} → (T → ℕ) → List ℕ → List ℕ → Reader T → Reader T → Reader T
+choose_by_two code one two p q ts = if at_two code one two ts then p ts else q ts
+
+-- ---- what goes on behind trees that were read
+
+-- of all tokens from the phrase's start, and the trees so far
+abbrev pub Cont : Type 0 → Type 0
+Cont T = List T → List Tree → Reader T
+
+abbrev pub continue : {T : Type 0} → List T → Read T → Cont T → Read T
+continue all fails k = fails
+continue all (got u rest) k = k all u rest
+
+abbrev pub followed : {T : Type 0} → Reader T → Cont T → Reader T
+followed p k ts = continue ts (p ts) k
+
+-- a function of all that the phrase has come to
+abbrev pub extended : {T : Type 0} → (List T → List Tree → List Tree) → Reader T → Cont T
+extended over q all u ts = make (λ front v. over front (u ++ v)) all (q ts)
+
+abbrev pub nothing_more : {T : Type 0} → Cont T
+nothing_more all u ts = got u ts
+
+-- the first where the front token is in the set, and else the second
+abbrev pub pick : {T : Type 0} → (T → ℕ) → List ℕ → Cont T → Cont T → Cont T
+pick code set k l all u ts = if at code set ts then k all u ts else l all u ts
+
+abbrev pub maybe_more : {T : Type 0} → (T → ℕ) → List ℕ → Cont T → Cont T
+maybe_more code set k = pick code set k nothing_more
+
+-- as often as the front token is in the set, at most so many times
+abbrev pub turns : {T : Type 0} → (T → ℕ) → List ℕ → Cont T → ℕ → Cont T
+turns code set k zero = nothing_more
+turns code set k (suc n) = maybe_more code set (λ all u ts. continue all (k all u ts) (turns code set k n))
+
+abbrev pub in_turns : {T : Type 0} → (T → ℕ) → Reader T → List ℕ → Cont T → Reader T
+in_turns code p set k ts = continue ts (p ts) (turns code set k (length ts))
+
+-- ---- whole lists
+
+abbrev pub else_ : {T : Type 0} → Read T → Read T → Read T
+else_ fails s = s
+else_ (got u rest) s = got u rest
+
+-- the first, and where that fails the second
+abbrev pub or_else : {T : Type 0} → Reader T → Reader T → Reader T
+or_else p q ts = else_ (p ts) (q ts)
+
+abbrev pub to_the_end : {T : Type 0} → Read T → Read T
+to_the_end fails = fails
+to_the_end (got u []) = got u []
+to_the_end (got u (t ∷ rest)) = fails
+
+-- what is read, where nothing is left
+abbrev pub all_of : {T : Type 0} → Reader T → Reader T
+all_of p ts = to_the_end (p ts)
