@@ -18,6 +18,10 @@ pub or_false : (b c : Bool) → (b || c) ≡ false → (b ≡ false) × (c ≡ f
 or_false true c e = absurd cc
 or_false false c e = (refl, e)
 
+pub or_right : (b c : Bool) → c ≡ true → (b || c) ≡ true
+or_right true c e = refl
+or_right false c e = e
+
 pub mem_append : (m : ℕ) (xs ys : List ℕ) → mem m (xs ++ ys) ≡ (mem m xs || mem m ys)
 mem_append m [] ys = refl
 mem_append m (x ∷ xs) ys = go (m == x) (mem_append m xs ys)
@@ -44,6 +48,10 @@ within_mem m [] ys e h = absurd cc
 within_mem m (x ∷ xs) ys e h =
     let (here, others) = cond_true (mem x ys) (is_within xs ys) e in
     or_true (m == x) (mem m xs) (mem m ys) h (λ same. eq_mem m x ys same ∙ here) (λ r. within_mem m xs ys others r)
+
+pub apart_nil : (f : List ℕ) → are_apart f [] ≡ true
+apart_nil [] = refl
+apart_nil (x ∷ f) = apart_nil f
 
 pub at_append : {T : Type 0} (code : T → ℕ) (xs ys : List ℕ) (ts : List T) → at code (xs ++ ys) ts ≡ false → (at code xs ts ≡ false) × (at code ys ts ≡ false)
 at_append code xs ys [] e = (refl, refl)

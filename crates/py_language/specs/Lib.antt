@@ -1,3 +1,4 @@
+pub mod Brackets
 pub mod Languages
 pub mod Readers
 pub mod Sets
