@@ -8,7 +8,7 @@ use Rattle.py_language.specs.Languages.{Language, Then, Nothing, Either, Maybe, 
 use Rattle.py_language.specs.Readers.{got, Reader, both, nothing, choose, optional, shown, skipped, before, made, where_, bracketed}
 use Rattle.py_language.proofs.SetLaws.{apart_nil, at_append, at_within}
 use Rattle.py_language.proofs.BracketLaws.{even_append, even_token, even_bracketed}
-use Rattle.py_language.proofs.ReadingLaws.{after_some, both_at, choose_got, test_got, same_trees, before_rest, make_got, make_at, filter_got}
+use Rattle.py_language.proofs.ReadingLaws.{regroup, after_some, both_at, choose_got, test_got, same_trees, before_rest, make_got, make_at, filter_got}
 use Rattle.py_language.proofs.Beginnings.{and_if, Begins, between, not_between, when, begins_both, at_begins, begins_left, begins_right, begins_wider}
 
 pub then_of : {T : Type 0} (a b : Language T) (x y : List T) (u v out : List Tree) → a x u → b y v → out ≡ u ++ v → Then a b (x ++ y) out
@@ -31,7 +31,7 @@ module _ {T : Type 0} (code : T → ℕ) (opens closes : List ℕ) where
         let (u, v, mid, e1, e2, e3) = after_some (p ts) q out rest e in
         let (x, ax, tx) = A.sound ts u mid e1 in
         let (y, by, ty) = B.sound mid v rest e2 in
-        (x ++ y, then_of a b x y u v out ax by e3, tx ∙ ap (λ (w : List T). x ++ w) ty ∙ sym (append_assoc x y rest));
+        (x ++ y, then_of a b x y u v out ax by e3, regroup ts x mid y rest tx ty);
     complete = λ front out rest h safe.
         let (s1, s2) = at_append code d (and_if m c) rest safe in
         let goal = both_at p q h.front h.back rest h.front_out h.back_out

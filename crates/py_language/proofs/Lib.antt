@@ -1,5 +1,10 @@
 pub mod Agreement
 pub mod Beginnings
 pub mod BracketLaws
+pub mod Continuation
+pub mod Looking
 pub mod ReadingLaws
+pub mod Repetition
+pub mod Separation
 pub mod SetLaws
+pub mod WholeLists

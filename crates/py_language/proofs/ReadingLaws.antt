@@ -5,6 +5,10 @@ use Rattle.tree_nodes.specs.Trees.{Tree}
 use Rattle.py_language.specs.Readers.{Read, got, fails, Reader, behind, after, both, before, make, filter, Cont, continue}
 
 module _ {T : Type 0} where
+  -- a part, and then a part and a rest, is both parts and the rest
+  pub regroup : (ts x mid y rest : List T) → ts ≡ x ++ mid → mid ≡ y ++ rest → ts ≡ (x ++ y) ++ rest
+  regroup ts x mid y rest e1 e2 = e1 ∙ ap (λ (w : List T). x ++ w) e2 ∙ sym (append_assoc x y rest)
+
   pub behind_some : (u : List Tree) (r : Read T) (out : List Tree) (rest : List T) → behind u r ≡ got out rest → (v : List Tree) × (r ≡ got v rest) × (out ≡ u ++ v)
   behind_some u fails out rest e = absurd cc
   behind_some u (got v mid) out rest e = (v, cc, cc)
