@@ -133,6 +133,9 @@ module _ {T : Type 0} (code : T → ℕ) (opens closes : List ℕ) where
 
   -- ---- any number of steps
 
+  regrouped : (step : Language T → Language T) (a : Language T) (x y z : List T) (out : List Tree) → Stepwise step a ((x ++ y) ++ z) out → Stepwise step a (x ++ (y ++ z)) out
+  regrouped step a x y z out h = subst (λ (w : List T). Stepwise step a w out) (append_assoc x y z) h
+
   turns_sound : {g d : List ℕ} {k : Cont T} {step : Language T → Language T} (a : Language T) → Continues g d k step → (fuel : ℕ) (n : ℕ) (x : List T) (u : List Tree) → Steps step a n x u
       → (ts : List T) (out : List Tree) (rest : List T) → turns code g k fuel (x ++ ts) u ts ≡ got out rest → (y : List T) × Stepwise step a (x ++ y) out × (ts ≡ y ++ rest)
   turns_sound {step = step} a K zero n x u h ts out rest e =
@@ -144,7 +147,7 @@ module _ {T : Type 0} (code : T → ℕ) (opens closes : List ℕ) where
             let (v, mid, e2, e3) = continue_got (x ++ ts) (k (x ++ ts) u ts) (turns code g k fuel) out rest e1 in
             let (y, sy, ty) = K.sound (Steps step a n) x u h ts v mid e2 in
             let (z, hz, tz) = turns_sound a K fuel (suc n) (x ++ y) v sy mid out rest (moved (turns code g k fuel) (x ++ ts) ((x ++ y) ++ mid) v mid (got out rest) (regroup (x ++ ts) x ts y mid refl ty) e3) in
-            (y ++ z, subst (λ (w : List T). Stepwise step a w out) (append_assoc x y z) hz, regroup ts y mid z rest ty tz)
+            (y ++ z, regrouped step a x y z out hz, regroup ts y mid z rest ty tz)
       ]
 
   -- after the steps of a phrase the turns go on with its tree

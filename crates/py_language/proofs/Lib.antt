@@ -1,8 +1,10 @@
 pub mod Agreement
 pub mod Beginnings
 pub mod BracketLaws
+pub mod Carrying
 pub mod Continuation
 pub mod Looking
+pub mod NestingLaws
 pub mod ReadingLaws
 pub mod Repetition
 pub mod Separation

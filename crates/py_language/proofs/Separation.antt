@@ -114,7 +114,7 @@ module _ {T : Type 0} (code : T → ℕ) (opens closes : List ℕ) where
             ]
       ]
 
-  separator_even : (a : Language T) (separator : List ℕ) → Even code opens closes a → are_apart opens separator ≡ true → are_apart closes separator ≡ true → Even code opens closes (Then (Skipped code separator) a)
+  pub separator_even : (a : Language T) (separator : List ℕ) → Even code opens closes a → are_apart opens separator ≡ true → are_apart closes separator ≡ true → Even code opens closes (Then (Skipped code separator) a)
   separator_even a separator A no_open no_close ts out h =
       rw (h.tokens, h.first.tokens) (even_append code opens closes (h.first.token ∷ []) h.back (even_token code opens closes separator h.first.token h.first.is_in no_open no_close) (A h.back h.back_out h.second))
 
