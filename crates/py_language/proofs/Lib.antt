@@ -3,6 +3,7 @@ pub mod Beginnings
 pub mod BracketLaws
 pub mod Carrying
 pub mod Continuation
+pub mod Finishing
 pub mod Looking
 pub mod NestingLaws
 pub mod ReadingLaws
