@@ -1,1 +1,4 @@
-
+pub mod Building
+pub mod Expressions
+pub mod FollowSets
+pub mod Operators
