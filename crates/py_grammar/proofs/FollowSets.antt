@@ -2,8 +2,8 @@
 use Rattle.std.specs.Prelude.{ℕ, List, ◌++◌}
 use Rattle.py_grammar.specs.declared.entry.Entry.{Entry}
 use Rattle.py_grammar.specs.declared.entry.Entry.TheVariants as e
-use Rattle.py_grammar.specs.Words.{name, and_word, as_word, assign, ampersand, bar, caret, colon, comma, dot, double_star, from_word, if_word, left_paren, or_word, product_operator, shift_operator, sum_operator, walrus}
-use Rattle.py_grammar.specs.Firsts.{strings_first, element_first, target_first, brace_first, argument_first, slices_first, trailer_first, clause_first, comparison_first, parameter_first, test_first, sequence_first}
+use Rattle.py_grammar.specs.Words.{dots, augmented_operator, arrow, from_word, semicolon, as_word, name, and_word, as_word, assign, ampersand, bar, caret, colon, comma, dot, double_star, from_word, if_word, left_paren, or_word, product_operator, shift_operator, sum_operator, walrus}
+use Rattle.py_grammar.specs.Firsts.{statement_first, sequence_first, strings_first, element_first, target_first, brace_first, argument_first, slices_first, trailer_first, clause_first, comparison_first, parameter_first, test_first, sequence_first}
 
 -- ---- expressions
 
@@ -98,8 +98,6 @@ lambda_parameters_more = parameter_first ++ comma ++ lambda_parameter_more
 
 -- ---- patterns
 
-abbrev pub dotted_name_more : List ℕ
-dotted_name_more = dot
 
 abbrev pub literal_more : List ℕ
 literal_more = sum_operator ++ strings_first
@@ -113,8 +111,40 @@ or_pattern_more = bar ++ closed_pattern_more
 abbrev pub pattern_more : List ℕ
 pattern_more = as_word ++ or_pattern_more
 
+abbrev pub class_argument_more : List ℕ
+class_argument_more = assign ++ pattern_more
 abbrev pub sequence_more : List ℕ
 sequence_more = sequence_first ++ comma ++ pattern_more
+
+-- ---- statements
+
+-- names and expressions with commas
+abbrev pub alias_more : List ℕ
+alias_more = as_word ++ dot
+abbrev pub aliases_more : List ℕ
+aliases_more = comma ++ alias_more
+abbrev pub source_more : List ℕ
+source_more = dots ++ name
+abbrev pub annotated_more : List ℕ
+annotated_more = assign ++ value_more
+abbrev pub value_statement_more : List ℕ
+value_statement_more = augmented_operator ++ colon ++ annotated_more
+abbrev pub statement_more : List ℕ
+statement_more = name ++ aliases_more ++ left_paren ++ value_statement_more
+abbrev pub statements_more : List ℕ
+statements_more = statement_first ++ semicolon ++ statement_more
+
+-- ---- headers
+
+abbrev pub parameter_more : List ℕ
+parameter_more = colon ++ lambda_parameter_more
+abbrev pub parameters_more : List ℕ
+parameters_more = parameter_first ++ comma ++ parameter_more
+-- behind all of a header but its `:`
+abbrev pub header_more : List ℕ
+header_more = arrow ++ left_paren ++ as_word ++ from_word ++ elements_more ++ sequence_more
+
+-- ---- entries
 
 -- what may go on behind a phrase of an entry
 abbrev pub entry_more : Entry → List ℕ

@@ -2,3 +2,4 @@ pub mod Building
 pub mod Expressions
 pub mod FollowSets
 pub mod Operators
+pub mod Patterns
