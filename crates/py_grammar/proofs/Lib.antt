@@ -3,3 +3,4 @@ pub mod Expressions
 pub mod FollowSets
 pub mod Operators
 pub mod Patterns
+pub mod Statements

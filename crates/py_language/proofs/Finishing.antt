@@ -3,13 +3,13 @@ use Rattle.std.proofs.Common.{◌≡◌, ℕ, true, false, cond, ◌||◌, Bool,
 use Rattle.tree_nodes.specs.Trees.{Tree}
 use Rattle.py_language.specs.Sets.{at, are_apart}
 use Rattle.py_language.specs.Languages.{Language, Then, Either, Made, Where}
-use Rattle.py_language.specs.Readers.{got, Reader, before, make, filter, Cont, followed, extended_where, pick, finished}
+use Rattle.py_language.specs.Readers.{Read, got, fails, Reader, continue, before, make, filter, Cont, followed, extended_where, pick, finished}
 use Rattle.py_language.proofs.SetLaws.{mem_append, at_append}
 use Rattle.py_language.proofs.BracketLaws.{even_append}
 use Rattle.py_language.proofs.ReadingLaws.{regroup, choose_got, make_got, make_at, filter_got, before_rest, continue_got, same_trees, same_rest}
 use Rattle.py_language.proofs.Beginnings.{not_between, at_begins, begins_front}
 use Rattle.py_language.proofs.Agreement.{then_of, Agrees}
-use Rattle.py_language.proofs.Continuation.{Continues}
+use Rattle.py_language.proofs.Continuation.{Continues, continues_pick}
 
 moved : {T : Type 0} (k : Cont T) (all all' : List T) (u : List Tree) (ts : List T) (out : List Tree) (rest : List T) → all ≡ all' → k all u ts ≡ got out rest → k all' u ts ≡ got out rest
 moved {T} k all all' u ts out rest same e = subst (λ (w : List T). k w u ts ≡ got out rest) same e
@@ -27,10 +27,32 @@ module _ {T : Type 0} (code : T → ℕ) where
       go true c = refl
       go false c = refl
 
+  same_behind : (k l : Cont T) → ((all : List T) (u : List Tree) (ts : List T) → k all u ts ≡ l all u ts) → (p : Reader T) (ts : List T) → followed p k ts ≡ followed p l ts
+  same_behind k l same p ts = go (p ts)
+    where
+      go : (r : Read T) → continue ts r k ≡ continue ts r l
+      go fails = refl
+      go (got u rest) = same ts u rest
+
+  same_else : (f : List ℕ) (k l m : Cont T) → ((all : List T) (u : List Tree) (ts : List T) → l all u ts ≡ m all u ts) → (all : List T) (u : List Tree) (ts : List T) → pick code f k l all u ts ≡ pick code f k m all u ts
+  same_else f k l m same all u ts = go (at code f ts)
+    where
+      go : (b : Bool) → cond b (k all u ts) (l all u ts) ≡ cond b (k all u ts) (m all u ts)
+      go true = refl
+      go false = same all u ts
+
+  -- three choices one behind another are one choice by all their sets
+  pub picks_joined : (f g h : List ℕ) (k l m n : Cont T) (p : Reader T) (ts : List T)
+      → followed p (pick code (f ++ (g ++ h)) (pick code f k (pick code g l m)) n) ts ≡ followed p (pick code f k (pick code g l (pick code h m n))) ts
+  picks_joined f g h k l m n p ts =
+      same_behind (pick code (f ++ (g ++ h)) (pick code f k (pick code g l m)) n) (pick code f k (pick code g l (pick code h m n))) (λ all u rest.
+      pick_joined f (g ++ h) k (pick code g l m) n all u rest
+      ∙ same_else f k (pick code (g ++ h) (pick code g l m) n) (pick code g l (pick code h m n)) (λ all' u' rest'. pick_joined g h l m n all' u' rest') all u rest) p ts
+
 module _ {T : Type 0} (code : T → ℕ) (opens closes : List ℕ) where
   -- a reader that reads the same
-  pub agree_equal : {n : Bool} {f c : List ℕ} {p : Reader T} {a : Language T} (q : Reader T) → ((ts : List T) → p ts ≡ q ts) → Agrees code opens closes n f c p a → Agrees code opens closes n f c q a
-  agree_equal q same A = record {
+  pub agree_equal : {n : Bool} {f c : List ℕ} {p q : Reader T} {a : Language T} → ((ts : List T) → p ts ≡ q ts) → Agrees code opens closes n f c p a → Agrees code opens closes n f c q a
+  agree_equal same A = record {
     sound = λ ts out rest e. A.sound ts out rest (same ts ∙ e);
     complete = λ front out rest h safe. sym (same (front ++ rest)) ∙ A.complete front out rest h safe;
     starts = A.starts;
@@ -107,3 +129,10 @@ module _ {T : Type 0} (code : T → ℕ) (opens closes : List ℕ) where
           | inr sx ↦ let q = K.complete a front out sx in rw q.tokens (even_append code opens closes q.x q.y (A.even q.x q.u q.inner) q.even)
         ];
   }
+
+  -- one of three, or else the end
+  pub agree_finished_three : {f c g1 d1 g2 d2 g3 d3 : List ℕ} {p : Reader T} {a : Language T} {k1 k2 k3 : Cont T} {s1 s2 s3 : Language T → Language T} (over : List T → List Tree → List Tree) → Agrees code opens closes false f c p a
+      → Continues code opens closes g1 d1 k1 s1 → Continues code opens closes g2 d2 k2 s2 → Continues code opens closes g3 d3 k3 s3 → are_apart g1 (g2 ++ g3) ≡ true → are_apart g2 g3 ≡ true → are_apart c (g1 ++ (g2 ++ g3)) ≡ true
+      → Agrees code opens closes false f ((g1 ++ (g2 ++ g3)) ++ (c ++ (d1 ++ (d2 ++ d3)))) (followed p (pick code g1 k1 (pick code g2 k2 (pick code g3 k3 (finished over))))) (Either (Made over a) (Either (s1 a) (Either (s2 a) (s3 a))))
+  agree_finished_three {g1 = g1} {g2 = g2} {g3 = g3} {p = p} {k1 = k1} {k2 = k2} {k3 = k3} over A K1 K2 K3 sep1 sep2 sep3 =
+      agree_equal (picks_joined code g1 g2 g3 k1 k2 k3 (finished over) p) (agree_finished over A (continues_pick code opens closes K1 (continues_pick code opens closes K2 K3 sep2) sep1) sep3)
