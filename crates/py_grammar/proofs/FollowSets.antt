@@ -2,8 +2,8 @@
 use Rattle.std.specs.Prelude.{ℕ, List, ◌++◌}
 use Rattle.py_grammar.specs.declared.entry.Entry.{Entry}
 use Rattle.py_grammar.specs.declared.entry.Entry.TheVariants as e
-use Rattle.py_grammar.specs.Words.{dots, augmented_operator, arrow, from_word, semicolon, as_word, name, and_word, as_word, assign, ampersand, bar, caret, colon, comma, dot, double_star, from_word, if_word, left_paren, or_word, product_operator, shift_operator, sum_operator, walrus}
-use Rattle.py_grammar.specs.Firsts.{statement_first, sequence_first, strings_first, element_first, target_first, brace_first, argument_first, slices_first, trailer_first, clause_first, comparison_first, parameter_first, test_first, sequence_first}
+use Rattle.py_grammar.specs.Words.{dots, augmented_operator, semicolon, name, and_word, as_word, assign, ampersand, bar, caret, colon, comma, dot, double_star, from_word, if_word, left_paren, or_word, product_operator, shift_operator, sum_operator, walrus}
+use Rattle.py_grammar.specs.Firsts.{statement_first, strings_first, element_first, target_first, brace_first, argument_first, slices_first, trailer_first, clause_first, comparison_first, parameter_first, test_first, sequence_first}
 
 -- ---- expressions
 
@@ -140,9 +140,13 @@ abbrev pub parameter_more : List ℕ
 parameter_more = colon ++ lambda_parameter_more
 abbrev pub parameters_more : List ℕ
 parameters_more = parameter_first ++ comma ++ parameter_more
--- behind all of a header but its `:`
-abbrev pub header_more : List ℕ
-header_more = arrow ++ left_paren ++ as_word ++ from_word ++ elements_more ++ sequence_more
+-- behind an expression that may have a name or a target
+abbrev pub as_more : List ℕ
+as_more = as_word ++ test_more
+abbrev pub with_more : List ℕ
+with_more = comma ++ as_more
+abbrev pub case_more : List ℕ
+case_more = sequence_more ++ named_more
 
 -- ---- entries
 
