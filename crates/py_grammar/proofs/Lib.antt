@@ -6,3 +6,11 @@ pub mod Operators
 pub mod Patterns
 pub mod Phrases
 pub mod Statements
+pub mod Trying
+pub mod Rows1
+pub mod Rows2
+pub mod Rows3
+pub mod Rows4
+pub mod Rows5
+pub mod Rows6
+pub mod Rows7
