@@ -2,6 +2,7 @@ pub mod Building
 pub mod Expressions
 pub mod FollowSets
 pub mod Headers
+pub mod LineParts
 pub mod Operators
 pub mod Patterns
 pub mod Phrases
