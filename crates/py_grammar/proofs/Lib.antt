@@ -1,8 +1,11 @@
 pub mod Building
 pub mod Expressions
+pub mod FirstTokens
 pub mod FollowSets
 pub mod Headers
 pub mod LineParts
+pub mod LineRows
+pub mod Lines
 pub mod Operators
 pub mod Patterns
 pub mod Phrases
