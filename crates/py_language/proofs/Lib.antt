@@ -3,6 +3,7 @@ pub mod Beginnings
 pub mod BracketLaws
 pub mod Carrying
 pub mod Continuation
+pub mod Finishing
 pub mod FormLaws
 pub mod KindLaws
 pub mod Looking

@@ -116,6 +116,14 @@ extended over q all u ts = make (λ front v. over front (u ++ v)) all (q ts)
 abbrev pub nothing_more : {T : Type 0} → Cont T
 nothing_more all u ts = got u ts
 
+-- the same, where a test of all trees holds
+abbrev pub extended_where : {T : Type 0} → (List Tree → Bool) → (List T → List Tree → List Tree) → Reader T → Cont T
+extended_where test over q all u ts = make (λ front v. over front (u ++ v)) all (filter (λ v. test (u ++ v)) (q ts))
+
+-- nothing more, but a function of all that the phrase has come to
+abbrev pub finished : {T : Type 0} → (List T → List Tree → List Tree) → Cont T
+finished over all u ts = got (over (before all ts) u) ts
+
 -- the first where the front token is in the set, and else the second
 abbrev pub pick : {T : Type 0} → (T → ℕ) → List ℕ → Cont T → Cont T → Cont T
 pick code set k l all u ts = if at code set ts then k all u ts else l all u ts
