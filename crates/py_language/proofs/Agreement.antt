@@ -5,7 +5,7 @@ use Rattle.tree_nodes.specs.Trees.{Node, none, Tree}
 use Rattle.py_language.specs.Sets.{mem, at, are_apart, is_within}
 use Rattle.py_language.specs.Brackets.{level}
 use Rattle.py_language.specs.Languages.{Language, Then, Nothing, Either, Maybe, Shown, Skipped, Made, Where, Bracketed}
-use Rattle.py_language.specs.Readers.{got, Reader, both, nothing, choose, optional, shown, skipped, before, made, where_, bracketed}
+use Rattle.py_language.specs.Readers.{got, fails, Reader, both, nothing, choose, optional, shown, skipped, before, made, where_, bracketed}
 use Rattle.py_language.proofs.SetLaws.{apart_nil, at_append, at_within}
 use Rattle.py_language.proofs.BracketLaws.{even_append, even_token, even_bracketed}
 use Rattle.py_language.proofs.ReadingLaws.{regroup, after_some, both_at, choose_got, test_got, same_trees, before_rest, make_got, make_at, filter_got}
@@ -50,6 +50,15 @@ module _ {T : Type 0} (code : T → ℕ) (opens closes : List ℕ) where
     complete = λ front out rest h safe. rw (h.0, h.1) refl;
     starts = λ front out h. rw h.0 refl;
     even = λ front out h d. rw h.0 refl;
+  }
+
+  -- what reads nothing at all, and a language without phrases
+  pub agree_nowhere : (n : Bool) (f c : List ℕ) → Agrees n f c (λ ts. fails) (λ ts out. ⊥)
+  agree_nowhere n f c = record {
+    sound = λ ts out rest e. absurd cc;
+    complete = λ front out rest h safe. absurd h;
+    starts = λ front out h. absurd h;
+    even = λ front out h d. absurd h;
   }
 
   pub agree_choose : {m : Bool} {f g c d : List ℕ} {p q : Reader T} {a b : Language T} → Agrees false f c p a → Agrees m g d q b → are_apart f g ≡ true

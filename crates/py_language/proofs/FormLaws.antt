@@ -26,6 +26,9 @@ module _ {T : Type 0} where
   pub form_nothing : Forms {T = T} [] Nothing
   form_nothing = record { shaped = λ ts out h. rw h.1 tt; fits = λ ts out h. rw h.1 refl }
 
+  pub form_nowhere : (parts : List Part) → Forms {T = T} parts (λ ts out. ⊥)
+  form_nowhere parts = record { shaped = λ ts out h. absurd h; fits = λ ts out h. absurd h }
+
   pub form_skipped : (code : T → ℕ) (set : List ℕ) → Forms [] (Skipped code set)
   form_skipped code set = record { shaped = λ ts out h. rw h.trees tt; fits = λ ts out h. rw h.trees refl }
 
@@ -94,6 +97,10 @@ module _ {T : Type 0} where
   form_separated {sorts} code separator A =
       form_then A (form_row_of (sorts_then sorts (sorts_many sorts (sorts_then sorts (sorts_skipped sorts code separator) (sorts_single A))) (sorts_maybe sorts (sorts_skipped sorts code separator))))
 
+  -- the same with no separator behind the last
+  pub form_joined : {sorts : List Sort} {a : Language T} (code : T → ℕ) (separator : List ℕ) → Forms (one sorts) a → Forms (some sorts) (Then a (Many (Then (Skipped code separator) a)))
+  form_joined {sorts} code separator A = form_then A (form_many (sorts_then sorts (sorts_skipped sorts code separator) (sorts_single A)))
+
   pub form_bracketed : {parts : List Part} {a : Language T} (code : T → ℕ) (opening closing : List ℕ) → Forms parts a → Forms parts (Bracketed code opening closing a)
   form_bracketed {parts} {a} code opening closing A = form_as nothing_behind (form_then (form_skipped code opening) (form_then A (form_skipped code closing)))
     where
@@ -120,6 +127,12 @@ module _ {T : Type 0} where
   pub forms_sole : {parts : List Part} {a : Language T} → Forms parts a → FormsOneOf (parts ∷ []) a
   forms_sole A = record { shaped = A.shaped; fits = λ ts out h. inl (A.fits ts out h) }
 
+  pub form_sole : {parts : List Part} {a : Language T} → FormsOneOf (parts ∷ []) a → Forms parts a
+  form_sole {parts} A = record { shaped = A.shaped; fits = λ ts out h. sole (kinds_of (pack out)) (A.fits ts out h) }
+    where
+      sole : (kinds : List Kind) → FitsOneOf (parts ∷ []) kinds → Fits parts kinds
+      sole kinds h = elim h [ inl g ↦ g | inr g ↦ absurd g ]
+
   pub forms_as : {forms others : List (List Part)} {a : Language T} → ((kinds : List Kind) → FitsOneOf forms kinds → FitsOneOf others kinds) → FormsOneOf forms a → FormsOneOf others a
   forms_as w A = record { shaped = A.shaped; fits = λ ts out h. w (kinds_of (pack out)) (A.fits ts out h) }
 
@@ -128,6 +141,10 @@ module _ {T : Type 0} where
     shaped = λ ts out h. elim h [ inl g ↦ A.shaped ts out g | inr g ↦ B.shaped ts out g ];
     fits = λ ts out h. elim h [ inl g ↦ fits_left forms others (kinds_of (pack out)) (A.fits ts out g) | inr g ↦ fits_right forms others (kinds_of (pack out)) (B.fits ts out g) ];
   }
+
+  -- or no trees
+  pub forms_maybe : {forms : List (List Part)} {a : Language T} → FormsOneOf forms a → FormsOneOf (forms ++ [] ∷ []) (Maybe a)
+  forms_maybe A = forms_either A (forms_sole form_nothing)
 
   -- the same parts before each form
   pub forms_then : {parts : List Part} {forms : List (List Part)} {a b : Language T} → Forms parts a → FormsOneOf forms b → FormsOneOf (before_each parts forms) (Then a b)
@@ -146,6 +163,11 @@ module _ {T : Type 0} where
   }
 
   -- ---- nodes
+
+  -- a function of the tokens and of the trees
+  pub form_made : {a : Language T} (parts : List Part) (over : List T → List Tree → List Tree) → ((ts : List T) (u : List Tree) → a ts u → AreShaped (pack (over ts u))) → ((ts : List T) (u : List Tree) → a ts u → Fits parts (kinds_of (pack (over ts u))))
+      → Forms parts (Made over a)
+  form_made parts over shaped fits = record { shaped = λ ts out h. rw h.trees (shaped ts h.parts h.spelled); fits = λ ts out h. rw h.trees (fits ts h.parts h.spelled) }
 
   -- a node whose kind is of one of the sorts and has these forms, over parts of one of the forms; it has a name where its
   -- kind has one
