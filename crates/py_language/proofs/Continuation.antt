@@ -4,11 +4,11 @@ use Rattle.std.proofs.lemmas.List.{append-nil}
 use Rattle.tree_nodes.specs.Trees.{Tree}
 use Rattle.py_language.specs.Sets.{at, are_apart}
 use Rattle.py_language.specs.Brackets.{IsEven, Even}
-use Rattle.py_language.specs.Languages.{Language, Then, Either, Made, Where, Steps, Stepwise}
-use Rattle.py_language.specs.Readers.{Read, got, Reader, before, make, filter, Cont, continue, followed, extended, extended_where, pick, maybe_more, turns, in_turns}
+use Rattle.py_language.specs.Languages.{Language, Then, Either, Made, Steps, Stepwise}
+use Rattle.py_language.specs.Readers.{Read, got, Reader, before, make, Cont, continue, followed, extended, pick, maybe_more, turns, in_turns}
 use Rattle.py_language.proofs.SetLaws.{at_append}
 use Rattle.py_language.proofs.BracketLaws.{even_append}
-use Rattle.py_language.proofs.ReadingLaws.{regroup, choose_got, make_got, make_at, filter_got, filter_at, before_rest, continue_got, same_trees, same_rest}
+use Rattle.py_language.proofs.ReadingLaws.{regroup, choose_got, make_got, make_at, before_rest, continue_got, same_trees, same_rest}
 use Rattle.py_language.proofs.Beginnings.{Begins, not_between, at_begins, begins_left, begins_right, begins_front, longer}
 use Rattle.py_language.proofs.Agreement.{then_of, Agrees}
 
@@ -59,33 +59,6 @@ module _ {T : Type 0} (code : T → ℕ) (opens closes : List ℕ) where
           even = B.even s.back s.back_out s.second;
           reads = λ rest safe.
               extended_at over s.front s.back front rest s.front_out s.back_out h.parts out (q (s.back ++ rest)) (B.complete s.back s.back_out rest s.second safe) s.tokens s.trees h.trees;
-        };
-  }
-
-  -- the same where a test of all trees holds
-  pub continues_extended_where : {f c : List ℕ} {q : Reader T} {b : Language T} (test : List Tree → Bool) (over : List T → List Tree → List Tree) → Agrees code opens closes false f c q b
-      → Continues f c (extended_where test over q) (λ a. Made over (Where test (Then a b)))
-  continues_extended_where {f} {c} {q} {b} test over B = record {
-    sound = λ a x u h ts out rest e.
-        let (v, e1, e2) = make_got (λ front w. over front (u ++ w)) (x ++ ts) (filter (λ w. test (u ++ w)) (q ts)) out rest e in
-        let (e3, holds) = filter_got (λ w. test (u ++ w)) (q ts) v rest e1 in
-        let (y, by, ty) = B.sound ts v rest e3 in
-        let front : before (x ++ ts) rest ≡ x ++ y = ap (λ (w : List T). before w rest) (regroup (x ++ ts) x ts y rest refl ty) ∙ before_rest (x ++ y) rest in
-        (y, record { parts = u ++ v; spelled = (then_of a b x y u v (u ++ v) h by refl, holds); trees = e2 ∙ ap (λ (w : List T). over w (u ++ v)) front }, ty);
-    complete = λ a front out h.
-        let s = h.spelled.0 in
-        let holds : test (s.front_out ++ s.back_out) ≡ true = ap test (sym s.trees) ∙ h.spelled.1 in
-        record {
-          x = s.front;
-          y = s.back;
-          u = s.front_out;
-          inner = s.first;
-          tokens = s.tokens;
-          begins = B.starts s.back s.back_out s.second;
-          even = B.even s.back s.back_out s.second;
-          reads = λ rest safe.
-              let e = filter_at (λ w. test (s.front_out ++ w)) (q (s.back ++ rest)) s.back_out rest (B.complete s.back s.back_out rest s.second safe) holds in
-              extended_at over s.front s.back front rest s.front_out s.back_out h.parts out (filter (λ w. test (s.front_out ++ w)) (q (s.back ++ rest))) e s.tokens s.trees h.trees;
         };
   }
 

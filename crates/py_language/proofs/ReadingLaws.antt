@@ -58,9 +58,6 @@ module _ {T : Type 0} where
       let same : u ≡ out = cc in
       (e', ap test (sym same) ∙ yes')
 
-  pub filter_at : (test : List Tree → Bool) (r : Read T) (u : List Tree) (rest : List T) → r ≡ got u rest → test u ≡ true → filter test r ≡ got u rest
-  filter_at test r u rest e holds = rw (e, holds) refl
-
   pub continue_got : (all : List T) (r : Read T) (k : Cont T) (out : List Tree) (rest : List T) → continue all r k ≡ got out rest
       → (u : List Tree) × (mid : List T) × (r ≡ got u mid) × (k all u mid ≡ got out rest)
   continue_got all fails k out rest e = absurd cc
