@@ -1,4 +1,5 @@
 pub mod Building
+pub mod DepthBuilding
 pub mod Expressions
 pub mod FollowSets
 pub mod Headers
@@ -6,8 +7,6 @@ pub mod LineParts
 pub mod Operators
 pub mod Patterns
 pub mod Phrases
-pub mod Statements
-pub mod Trying
 pub mod Rows1
 pub mod Rows2
 pub mod Rows3
@@ -15,3 +14,6 @@ pub mod Rows4
 pub mod Rows5
 pub mod Rows6
 pub mod Rows7
+pub mod Statements
+pub mod Trying
+pub mod Weighing
