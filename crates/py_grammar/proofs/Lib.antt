@@ -1,5 +1,7 @@
 pub mod Building
 pub mod DepthBuilding
+pub mod DepthExpressions
+pub mod DepthOperators
 pub mod Expressions
 pub mod FollowSets
 pub mod Headers
