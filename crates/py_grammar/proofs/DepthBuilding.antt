@@ -85,8 +85,11 @@ carry_heavy kind heavy C = carried_heavy code opens closes weight (spanning kind
 
 -- ---- rows and items with commas
 
+pub carry_row_node : {k : ℕ} {a b : Form} (kind : Kind) → Carries k a b → Carries k (Made (row (spanning kind)) a) (Made (row (spanning kind)) b)
+carry_row_node kind C = carried_row code opens closes weight (spanning kind) C
+
 pub carry_row : {k : ℕ} {a b op op' : Form} (kind : Kind) → Carries k op op' → Carries k a b → Carries k (Row kind op a) (Row kind op' b)
-carry_row kind O C = carried_row code opens closes weight (spanning kind) (carry_then C (carry_many (carry_then O C)))
+carry_row kind O C = carry_row_node kind (carry_then C (carry_many (carry_then O C)))
 
 pub carry_joined : {k : ℕ} {a b : Form} → Carries k a b → Carries k (Joined a) (Joined b)
 carry_joined C = carry_then C (carry_many (carry_behind comma refl refl C))
