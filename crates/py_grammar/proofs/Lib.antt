@@ -1,7 +1,10 @@
 pub mod Building
 pub mod DepthBuilding
 pub mod DepthExpressions
+pub mod DepthHeaders
 pub mod DepthOperators
+pub mod DepthPatterns
+pub mod DepthStatements
 pub mod Expressions
 pub mod FollowSets
 pub mod Headers
