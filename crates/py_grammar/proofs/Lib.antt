@@ -1,7 +1,9 @@
 pub mod Building
+pub mod Depth
 pub mod DepthBuilding
 pub mod DepthExpressions
 pub mod DepthHeaders
+pub mod DepthLines
 pub mod DepthOperators
 pub mod DepthPatterns
 pub mod DepthStatements
