@@ -1,16 +1,15 @@
 -- A bound on how often a phrase leads back is no restriction: a phrase within any depth is one within each depth that is
 -- greater than its nesting and its open brackets together.
-use Rattle.std.proofs.Common.{◌≡◌, ℕ, zero, suc, List}
-use Rattle.tree_nodes.specs.Trees.{Tree}
+use Rattle.std.proofs.Common.{ℕ, zero, suc}
 use Rattle.py_language.specs.Brackets.{Even}
 use Rattle.py_language.proofs.Carrying.{carried_none, carried_same}
 use Rattle.py_grammar.specs.declared.entry.Entry.{Entry}
 use Rattle.py_grammar.specs.declared.entry.Entry.TheVariants as e
-use Rattle.py_grammar.specs.Terminals.{Terminal, Form, code}
+use Rattle.py_grammar.specs.Terminals.{Form, code}
 use Rattle.py_grammar.specs.Words.{opens, closes}
 use Rattle.py_grammar.specs.Weights.{weight}
 use Rattle.py_grammar.specs.Lines.{FormOf, PhraseWithin}
-use Rattle.py_grammar.proofs.DepthBuilding.{Carries, Leads}
+use Rattle.py_grammar.proofs.DepthBuilding.{Leads}
 use Rattle.py_grammar.proofs.DepthOperators.{carries_factor, carries_bit_or, carries_not, carries_or, carries_test}
 use Rattle.py_grammar.proofs.DepthPatterns.{carries_pattern}
 

@@ -3,7 +3,7 @@
 use Rattle.std.proofs.Common.{◌≡◌, ◌≤◌, ℕ, suc, Bool, true, List, refl}
 use Rattle.tree_nodes.specs.Trees.{Node, Tree}
 use Rattle.tree_nodes.specs.declared.kind.Kind.{Kind}
-use Rattle.py_language.specs.Sets.{are_apart, is_within}
+use Rattle.py_language.specs.Sets.{are_apart}
 use Rattle.py_language.specs.Languages.{Then, Either, Maybe, Many, Some, Made, Where, Bracketed, Stepwise, whole, row}
 use Rattle.py_language.specs.Nesting.{nesting_of, Carried}
 use Rattle.py_language.proofs.Carrying.{carried_same, carried_pred, carried_skipped, carried_shown, carried_then, carried_either, carried_maybe, carried_many, carried_some, carried_separated, carried_where, carried_made, carried_whole, carried_row, carried_heavy, carried_bracketed, carried_steps}

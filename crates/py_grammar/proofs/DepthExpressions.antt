@@ -1,6 +1,6 @@
 -- How deep an expression leads back. Where each form in which it leads back carries at k, what brackets hold carries at
 -- k + 1, and what stands beside other things at k.
-use Rattle.std.proofs.Common.{◌≡◌, ℕ, suc, true, List, [], ◌∷◌, refl}
+use Rattle.std.proofs.Common.{ℕ, suc, refl}
 use Rattle.tree_nodes.specs.declared.kind.Kind.TheVariants as kinds
 use Rattle.py_grammar.specs.declared.entry.Entry.{Entry}
 use Rattle.py_grammar.specs.declared.entry.Entry.TheVariants as e
@@ -9,7 +9,7 @@ use Rattle.py_grammar.specs.Words.{name, async_word, for_word, from_word, if_wor
 use Rattle.py_grammar.specs.Nodes.{first_text, plain_leaf}
 use Rattle.py_grammar.specs.Tests.{in_order}
 use Rattle.py_grammar.specs.Expressions.{in_parentheses, in_brackets, in_braces, call_arguments, are_alike, are_arguments, bound, is_one_target, Target, Star, Named, Element, SxItem, Sx, Yield, TargetItem, Targets, ForClause, Clause, Clauses, Parenthesized, ListDisplay, ItemOrNamed, Unpacked, BraceEntry, BraceDisplay, StarredArgument, PlainArgument, Argument, Arguments, CallArguments, SliceRest, Slice, StarredSlice, Slices}
-use Rattle.py_grammar.proofs.DepthBuilding.{Carries, Leads, carry_token, carry_leaf, carry_then, carry_behind, carry_either, carry_maybe, carry_many, carry_some, carry_where, carry_over, carry_node, carry_named_node, carry_commas, carry_comma_rest, carry_tupled, carry_parentheses, carry_brackets, carry_braces}
+use Rattle.py_grammar.proofs.DepthBuilding.{Carries, Leads, carry_leaf, carry_then, carry_behind, carry_either, carry_maybe, carry_many, carry_some, carry_where, carry_over, carry_node, carry_named_node, carry_commas, carry_comma_rest, carry_tupled, carry_parentheses, carry_brackets, carry_braces}
 use Rattle.py_grammar.proofs.Weighing.{parentheses_keep, brackets_keep, braces_keep, call_keeps, bound_keeps}
 
 -- a target is carried as the expression is

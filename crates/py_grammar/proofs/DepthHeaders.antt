@@ -1,8 +1,8 @@
 -- How deep headers and decorators lead back: no deeper than their expressions and patterns do.
-use Rattle.std.proofs.Common.{◌≡◌, ◌≤◌, ℕ, suc, true, List, [], ◌∷◌, ◌++◌, refl}
+use Rattle.std.proofs.Common.{◌≤◌, ℕ, List, refl}
 use Rattle.tree_nodes.specs.Trees.{Tree}
 use Rattle.tree_nodes.specs.declared.kind.Kind.TheVariants as kinds
-use Rattle.py_language.specs.Languages.{Then, Maybe, Made}
+use Rattle.py_language.specs.Languages.{Then, Maybe}
 use Rattle.py_language.specs.Nesting.{nesting_of}
 use Rattle.py_language.proofs.Carrying.{carried_made}
 use Rattle.py_grammar.specs.declared.entry.Entry.{Entry}
@@ -14,7 +14,7 @@ use Rattle.py_grammar.specs.Tests.{parameters_in_order}
 use Rattle.py_grammar.specs.Weights.{weight}
 use Rattle.py_grammar.specs.Expressions.{star_parameter, keyword_only_behind_star}
 use Rattle.py_grammar.specs.Headers.{ParameterAnnotation, StarAnnotation, Parameter, Parameters, ForHeader, ExceptHeader, ExceptStarHeader, WithItem, PlainWith, ParenthesizedWith, FunctionHeader, ClassHeader, Subject, MatchHeader, CaseHeader, DecoratorLine}
-use Rattle.py_grammar.proofs.DepthBuilding.{Carries, Leads, one_less, carry_token, carry_leaf, carry_then, carry_behind, carry_either, carry_maybe, carry_where, carry_over, carry_node, carry_named_node, carry_joined, carry_commas, carry_comma_rest, carry_tupled, carry_parentheses}
+use Rattle.py_grammar.proofs.DepthBuilding.{Carries, Leads, one_less, carry_leaf, carry_then, carry_behind, carry_either, carry_maybe, carry_where, carry_over, carry_node, carry_named_node, carry_joined, carry_commas, carry_comma_rest, carry_tupled, carry_parentheses}
 use Rattle.py_grammar.proofs.Weighing.{star_keeps, keywords_keep}
 use Rattle.py_grammar.proofs.DepthExpressions.{carries_target, carries_star, carries_named, carries_element, carries_sx, carries_target_item, carries_targets, carries_arguments}
 use Rattle.py_grammar.proofs.DepthPatterns.{carries_open_patterns}

@@ -1,19 +1,17 @@
 -- How deep lines lead back. A line of trees nested 200 deep at most, whose brackets go b deep at most, is read by phrases
 -- within the depth 201 + b where it is read by phrases of any depth.
-use Rattle.std.proofs.Common.{◌≡◌, ◌≤◌, ◌<◌, ◌+◌, ℕ, suc, max, true, List, [], ◌∷◌, ◌++◌, refl, ap, arith}
+use Rattle.std.proofs.Common.{◌≡◌, ◌≤◌, ◌<◌, ◌+◌, ℕ, true, List, [], ◌∷◌, ◌++◌, refl, ap, arith}
 use Rattle.tree_nodes.specs.Trees.{Tree}
 use Rattle.py_language.specs.Sets.{are_apart}
 use Rattle.py_language.specs.Brackets.{peak}
-use Rattle.py_language.specs.Languages.{Then, Maybe}
 use Rattle.py_language.specs.Nesting.{nesting_of}
 use Rattle.py_language.proofs.BracketLaws.{even_token, peak_both}
 use Rattle.py_language.proofs.NestingLaws.{nesting_append}
 use Rattle.py_grammar.specs.declared.entry.Entry.{Entry}
 use Rattle.py_grammar.specs.Terminals.{Terminal, Form, code}
 use Rattle.py_grammar.specs.Words.{opens, closes, async_word, colon}
-use Rattle.py_grammar.specs.Nodes.{Token}
 use Rattle.py_grammar.specs.Weights.{weight}
-use Rattle.py_grammar.specs.Headers.{ForHeader, ExceptHeader, ExceptStarHeader, PlainWith, ParenthesizedWith, FunctionHeader, ClassHeader, MatchHeader, CaseHeader, DecoratorLine}
+use Rattle.py_grammar.specs.Headers.{ForHeader, ExceptHeader, ExceptStarHeader, PlainWith, ParenthesizedWith, FunctionHeader, ClassHeader, MatchHeader, CaseHeader}
 use Rattle.py_grammar.specs.Lines.{PhraseWithin, Row, Fits, headed, bare, decorator, simple, alone, with_test, async}
 use Rattle.py_grammar.proofs.DepthBuilding.{Carries, Leads, carry_token, carry_then, carry_behind, carry_maybe}
 use Rattle.py_grammar.proofs.DepthExpressions.{carries_named}

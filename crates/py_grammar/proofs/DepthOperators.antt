@@ -1,17 +1,14 @@
 -- How deep the rows of operators lead back: each looser row stands below a node that weighs, or within brackets, so that
 -- where the rows in which they lead back carry at k, they carry at k + 1.
-use Rattle.std.proofs.Common.{◌≡◌, ◌≤◌, ◌+◌, ℕ, suc, Bool, true, false, cond, List, [], ◌∷◌, refl, arith}
-use Rattle.tree_nodes.specs.Trees.{Tree}
-use Rattle.tree_nodes.specs.declared.kind.Kind.{Kind}
+use Rattle.std.proofs.Common.{◌≡◌, ℕ, suc, Bool, true, false, cond, List, [], ◌∷◌, refl}
 use Rattle.tree_nodes.specs.declared.kind.Kind.TheVariants as kinds
-use Rattle.py_language.specs.Languages.{Then, Made, Many, whole}
 use Rattle.py_language.proofs.Carrying.{carried_heavy}
 use Rattle.py_grammar.specs.declared.entry.Entry.{Entry}
 use Rattle.py_grammar.specs.declared.entry.Entry.TheVariants as e
 use Rattle.py_grammar.specs.declared.symbol.Symbol.TheVariants as s
 use Rattle.py_grammar.specs.Terminals.{Terminal, Form, code, is_one_of, first_of}
 use Rattle.py_grammar.specs.Words.{name, plain_string, byte_string, format_string, format_string_end, simple_atom, opens, closes, and_word, await_word, else_word, if_word, in_word, is_word, lambda_word, not_word, or_word, colon, dot, assign, star, double_star, slash, bar, caret, ampersand, sign, shift_operator, sum_operator, product_operator, comparison_operator}
-use Rattle.py_grammar.specs.Nodes.{first_text, second_text, last_text, strings_text, atom_leaf, operator_leaf, plain_leaf, Token}
+use Rattle.py_grammar.specs.Nodes.{first_text, second_text, last_text, strings_text, atom_leaf, operator_leaf, plain_leaf}
 use Rattle.py_grammar.specs.Tests.{parameters_in_order}
 use Rattle.py_grammar.specs.Weights.{weight}
 use Rattle.py_grammar.specs.Expressions.{string_node, sign_node, star_parameter, keyword_only_behind_star, Trailed, FieldExpression, InnerField, Field, StringPart, Strings, Atom, Primary, Awaited, Power, Factor, Term, Arith, Shift, BitAnd, BitXor, BitOr, ComparisonSign, Comparison, Not, And, Or, LambdaParameter, LambdaParameters, Lambda, Test}

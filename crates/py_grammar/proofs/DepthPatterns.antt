@@ -1,6 +1,6 @@
 -- How deep a pattern leads back: within brackets alone, so that where the forms in which it leads back carry at k, a
 -- pattern carries at k + 1.
-use Rattle.std.proofs.Common.{◌≡◌, ℕ, suc, true, List, [], ◌∷◌, refl}
+use Rattle.std.proofs.Common.{ℕ, suc, refl}
 use Rattle.tree_nodes.specs.declared.kind.Kind.TheVariants as kinds
 use Rattle.py_grammar.specs.declared.entry.Entry.{Entry}
 use Rattle.py_grammar.specs.declared.entry.Entry.TheVariants as e

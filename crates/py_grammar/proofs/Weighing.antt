@@ -1,5 +1,5 @@
 -- No nesting is lost where nodes are made of parts, or where an expression is bound as a target.
-use Rattle.std.proofs.Common.{◌≡◌, ◌≤◌, ◌+◌, ℕ, max, Bool, true, false, cond, ◌||◌, List, [], ◌∷◌, Option, refl, arith}
+use Rattle.std.proofs.Common.{◌≡◌, ◌≤◌, ◌+◌, ℕ, Bool, true, false, cond, ◌||◌, List, [], ◌∷◌, Option, refl, arith}
 use Rattle.lint_values.specs.declared.place.Pos.{Pos}
 use Rattle.tree_nodes.specs.Trees.{Node, Trees, none, tree, Tree}
 use Rattle.tree_nodes.specs.declared.kind.Kind.{Kind}
