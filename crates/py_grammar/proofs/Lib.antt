@@ -1,4 +1,12 @@
 pub mod Building
+pub mod Depth
+pub mod DepthBuilding
+pub mod DepthExpressions
+pub mod DepthHeaders
+pub mod DepthLines
+pub mod DepthOperators
+pub mod DepthPatterns
+pub mod DepthStatements
 pub mod Expressions
 pub mod FirstTokens
 pub mod FollowSets
@@ -9,8 +17,6 @@ pub mod Lines
 pub mod Operators
 pub mod Patterns
 pub mod Phrases
-pub mod Statements
-pub mod Trying
 pub mod Rows1
 pub mod Rows2
 pub mod Rows3
@@ -18,3 +24,6 @@ pub mod Rows4
 pub mod Rows5
 pub mod Rows6
 pub mod Rows7
+pub mod Statements
+pub mod Trying
+pub mod Weighing

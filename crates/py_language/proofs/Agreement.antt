@@ -1,15 +1,15 @@
 -- A reader agrees with a language: what it reads the tokens spell, and it reads what they spell where nothing behind
 -- could go on. So the trees of a list of tokens are unique. One law for each way to build a language.
-use Rattle.std.proofs.Common.{◌≡◌, ℕ, Bool, true, false, cond, List, [], ◌∷◌, ◌++◌, inl, inr, refl, sym, ap, ◌∙◌, append_assoc}
+use Rattle.std.proofs.Common.{◌≡◌, ℕ, Bool, true, false, cond, List, [], ◌∷◌, ◌++◌, inl, inr, refl, sym, ap, ◌∙◌, append_assoc, ◌<◌, length, length-append, arith}
 use Rattle.tree_nodes.specs.Trees.{Node, none, Tree}
 use Rattle.py_language.specs.Sets.{mem, at, are_apart, is_within}
 use Rattle.py_language.specs.Brackets.{level}
 use Rattle.py_language.specs.Languages.{Language, Then, Nothing, Either, Maybe, Shown, Skipped, Made, Where, Bracketed}
-use Rattle.py_language.specs.Readers.{got, Reader, both, nothing, choose, optional, shown, skipped, before, made, where_, bracketed}
+use Rattle.py_language.specs.Readers.{got, fails, Reader, both, nothing, choose, optional, shown, skipped, before, made, where_, bracketed}
 use Rattle.py_language.proofs.SetLaws.{apart_nil, at_append, at_within}
 use Rattle.py_language.proofs.BracketLaws.{even_append, even_token, even_bracketed}
 use Rattle.py_language.proofs.ReadingLaws.{regroup, after_some, both_at, choose_got, test_got, same_trees, before_rest, make_got, make_at, filter_got}
-use Rattle.py_language.proofs.Beginnings.{and_if, Begins, between, not_between, when, begins_both, at_begins, begins_left, begins_right, begins_wider}
+use Rattle.py_language.proofs.Beginnings.{and_if, Begins, between, not_between, when, begins_both, at_begins, begins_left, begins_right, begins_wider, longer}
 
 pub then_of : {T : Type 0} (a b : Language T) (x y : List T) (u v out : List Tree) → a x u → b y v → out ≡ u ++ v → Then a b (x ++ y) out
 then_of a b x y u v out h g e = record { front = x; back = y; front_out = u; back_out = v; first = h; second = g; tokens = refl; trees = e }
@@ -50,6 +50,15 @@ module _ {T : Type 0} (code : T → ℕ) (opens closes : List ℕ) where
     complete = λ front out rest h safe. rw (h.0, h.1) refl;
     starts = λ front out h. rw h.0 refl;
     even = λ front out h d. rw h.0 refl;
+  }
+
+  -- what reads nothing at all, and a language without phrases
+  pub agree_nowhere : (n : Bool) (f c : List ℕ) → Agrees n f c (λ ts. fails) (λ ts out. ⊥)
+  agree_nowhere n f c = record {
+    sound = λ ts out rest e. absurd cc;
+    complete = λ front out rest h safe. absurd h;
+    starts = λ front out h. absurd h;
+    even = λ front out h d. absurd h;
   }
 
   pub agree_choose : {m : Bool} {f g c d : List ℕ} {p q : Reader T} {a b : Language T} → Agrees false f c p a → Agrees m g d q b → are_apart f g ≡ true
@@ -188,3 +197,18 @@ module _ {T : Type 0} (code : T → ℕ) (opens closes : List ℕ) where
       let e = A.complete ts out [] h refl in
       let e' = A.complete ts out' [] h' refl in
       same_trees out out' [] [] (sym e ∙ e')
+
+  -- what is left is shorter, where no phrase is empty
+  pub reads_shorter : {fs c : List ℕ} {p : Reader T} {a : Language T} → Agrees false fs c p a → (ts : List T) (out : List Tree) (rest : List T) → p ts ≡ got out rest → length rest < length ts
+  reads_shorter {fs = fs} A ts out rest e =
+      let (x, ax, tx) = A.sound ts out rest e in
+      omega (arith, ap length tx, length-append x rest, longer code fs x (A.starts x out ax))
+
+  -- the same reader for a language of the same phrases
+  pub agree_same : {n : Bool} {fs c : List ℕ} {p : Reader T} {a b : Language T} → ((ts : List T) (out : List Tree) → a ts out → b ts out) → ((ts : List T) (out : List Tree) → b ts out → a ts out) → Agrees n fs c p a → Agrees n fs c p b
+  agree_same to from A = record {
+    sound = λ ts out rest e. let (x, ax, tx) = A.sound ts out rest e in (x, to x out ax, tx);
+    complete = λ front out rest h safe. A.complete front out rest (from front out h) safe;
+    starts = λ front out h. A.starts front out (from front out h);
+    even = λ front out h. A.even front out (from front out h);
+  }

@@ -1,5 +1,5 @@
 -- What goes on behind trees that were read: phrases of a language, and steps to the left of what follows.
-use Rattle.std.proofs.Common.{◌≡◌, ℕ, zero, suc, ◌+◌, ◌-◌, ◌≤◌, true, false, List, [], ◌++◌, length, inl, inr, refl, sym, ap, subst, ◌∙◌, append_assoc, length-append, arith}
+use Rattle.std.proofs.Common.{◌≡◌, ℕ, zero, suc, ◌+◌, ◌-◌, ◌≤◌, ◌<◌, Bool, true, false, List, [], ◌++◌, length, inl, inr, refl, sym, ap, subst, ◌∙◌, append_assoc, length-append, arith}
 use Rattle.std.proofs.lemmas.List.{append-nil}
 use Rattle.tree_nodes.specs.Trees.{Tree}
 use Rattle.py_language.specs.Sets.{at, are_apart}
@@ -12,25 +12,33 @@ use Rattle.py_language.proofs.ReadingLaws.{regroup, choose_got, make_got, make_a
 use Rattle.py_language.proofs.Beginnings.{Begins, not_between, at_begins, begins_left, begins_right, begins_front, longer}
 use Rattle.py_language.proofs.Agreement.{then_of, Agrees}
 
-moved : {T : Type 0} (k : Cont T) (all all' : List T) (u : List Tree) (ts : List T) (r : Read T) → all ≡ all' → k all u ts ≡ r → k all' u ts ≡ r
+pub moved : {T : Type 0} (k : Cont T) (all all' : List T) (u : List Tree) (ts : List T) (r : Read T) → all ≡ all' → k all u ts ≡ r → k all' u ts ≡ r
 moved {T} k all all' u ts r same e = subst (λ (w : List T). k w u ts ≡ r) same e
 
+-- a node over what was read before and what is read now
+extended_at : {T : Type 0} (over : List T → List Tree → List Tree) (x y front rest : List T) (u v parts out : List Tree) (r : Read T) → r ≡ got v rest → front ≡ x ++ y → parts ≡ u ++ v → out ≡ over front parts
+    → make (λ z w. over z (u ++ w)) (x ++ (y ++ rest)) r ≡ got out rest
+extended_at {T} over x y front rest u v parts out r e front_is parts_is out_is =
+    let done = make_at (λ z w. over z (u ++ w)) (x ++ y) rest r v e in
+    let same : over (x ++ y) (u ++ v) ≡ out = rw (out_is, parts_is, front_is) refl in
+    ap (λ (w : List T). make (λ z v'. over z (u ++ v')) w r) (sym (append_assoc x y rest)) ∙ done ∙ ap (λ (o : List Tree). got o rest) same
+
 module _ {T : Type 0} (code : T → ℕ) (opens closes : List ℕ) where
-  -- a phrase of a step behind a: a phrase of a, and what k reads behind it
-  pub record Splits (f c : List ℕ) (k : Cont T) (a : Language T) (front : List T) (out : List Tree) : Type 0 where
+  -- a phrase of a step behind a: a phrase of a, and what k reads behind it, which begins in f or, where n says so, is nothing
+  pub record Splits (n : Bool) (f c : List ℕ) (k : Cont T) (a : Language T) (front : List T) (out : List Tree) : Type 0 where
     pub x : List T
     pub y : List T
     pub u : List Tree
     pub inner : a x u
     pub tokens : front ≡ x ++ y
-    pub begins : Begins code false f y
+    pub begins : Begins code n f y
     pub even : IsEven code opens closes y
     pub reads : (rest : List T) → at code c rest ≡ false → k (x ++ (y ++ rest)) u (y ++ rest) ≡ got out rest
 
   -- k reads the step: what it reads begins in f, and what may go on is in c
   pub record Continues (f c : List ℕ) (k : Cont T) (step : Language T → Language T) : Type 1 where
     pub sound : (a : Language T) (x : List T) (u : List Tree) → a x u → (ts : List T) (out : List Tree) (rest : List T) → k (x ++ ts) u ts ≡ got out rest → (y : List T) × step a (x ++ y) out × (ts ≡ y ++ rest)
-    pub complete : (a : Language T) (front : List T) (out : List Tree) → step a front out → Splits f c k a front out
+    pub complete : (a : Language T) (front : List T) (out : List Tree) → step a front out → Splits false f c k a front out
 
   pub continues_extended : {f c : List ℕ} {q : Reader T} {b : Language T} (over : List T → List Tree → List Tree) → Agrees code opens closes false f c q b → Continues f c (extended over q) (λ a. Made over (Then a b))
   continues_extended {f} {c} {q} {b} over B = record {
@@ -50,10 +58,7 @@ module _ {T : Type 0} (code : T → ℕ) (opens closes : List ℕ) where
           begins = B.starts s.back s.back_out s.second;
           even = B.even s.back s.back_out s.second;
           reads = λ rest safe.
-              let e = B.complete s.back s.back_out rest s.second safe in
-              let made' = make_at (λ w v. over w (s.front_out ++ v)) (s.front ++ s.back) rest (q (s.back ++ rest)) s.back_out e in
-              let out_is : over (s.front ++ s.back) (s.front_out ++ s.back_out) ≡ out = rw (h.trees, s.trees, s.tokens) refl in
-              ap (λ (w : List T). make (λ z v. over z (s.front_out ++ v)) w (q (s.back ++ rest))) (sym (append_assoc s.front s.back rest)) ∙ made' ∙ ap (λ (o : List Tree). got o rest) out_is;
+              extended_at over s.front s.back front rest s.front_out s.back_out h.parts out (q (s.back ++ rest)) (B.complete s.back s.back_out rest s.second safe) s.tokens s.trees h.trees;
         };
   }
 
@@ -204,3 +209,14 @@ module _ {T : Type 0} (code : T → ℕ) (opens closes : List ℕ) where
     starts = λ front out h. steps_begin A K h.0 front out h.1;
     even = λ front out h. steps_even A K h.0 front out h.1;
   }
+
+  -- ---- what is left gets shorter
+
+  pub continues_shorter : {f c : List ℕ} {k : Cont T} {step : Language T → Language T} → Continues f c k step → (all : List T) (u : List Tree) (ts : List T) (out : List Tree) (rest : List T) → k all u ts ≡ got out rest → (x : List T) → all ≡ x ++ ts
+      → length rest < length ts
+  continues_shorter {f} {c} {k} {step} K all u ts out rest e x all_is =
+      let one : Language T = λ front parts. (front ≡ x) × (parts ≡ u) in
+      let (y, sy, ty) = K.sound one x u (refl, refl) ts out rest (moved k all (x ++ ts) u ts (got out rest) all_is e) in
+      let q = K.complete one (x ++ y) out sy in
+      let same : length (x ++ y) ≡ length (q.x ++ q.y) = ap length q.tokens in
+      omega (arith, ap length ty, length-append y rest, same, length-append x y, length-append q.x q.y, ap length q.inner.0, longer code f q.y q.begins)

@@ -4,10 +4,13 @@ pub mod BracketLaws
 pub mod Carrying
 pub mod Continuation
 pub mod Finishing
+pub mod FormLaws
+pub mod KindLaws
 pub mod Looking
 pub mod NestingLaws
 pub mod ReadingLaws
 pub mod Repetition
 pub mod Separation
 pub mod SetLaws
+pub mod SortLaws
 pub mod WholeLists

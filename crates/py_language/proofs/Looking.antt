@@ -1,13 +1,13 @@
 -- A choice by two tokens: the second language may begin with the first of the two, but where it does so and the second
 -- of the two stands behind, that token alone would be all of the phrase.
 use Rattle.std.proofs.Common.{◌≡◌, ℕ, Bool, true, false, List, [], ◌∷◌, ◌++◌, inl, inr, refl, sym, subst, ◌∙◌, append_assoc}
-use Rattle.tree_nodes.specs.Trees.{Node, Tree}
+use Rattle.tree_nodes.specs.Trees.{Node, none, Tree}
 use Rattle.py_language.specs.Sets.{mem, at, are_apart, is_within}
 use Rattle.py_language.specs.Languages.{Language, Then, Either, Shown, Skipped, Made, Where}
-use Rattle.py_language.specs.Readers.{got, Reader, both, choose, optional, made, where_, at_two, choose_by_two, Cont, followed, maybe_more}
+use Rattle.py_language.specs.Readers.{got, Reader, skipped, shown, both, choose, optional, made, where_, at_two, choose_by_two, Cont, followed, maybe_more}
 use Rattle.py_language.proofs.SetLaws.{cond_true, apart_mem, at_append, at_within, not_true}
-use Rattle.py_language.proofs.ReadingLaws.{after_some, choose_got, make_got, filter_got, continue_got, same_rest}
-use Rattle.py_language.proofs.Beginnings.{begins_left, begins_right}
+use Rattle.py_language.proofs.ReadingLaws.{test_got, after_some, choose_got, make_got, filter_got, continue_got, same_rest}
+use Rattle.py_language.proofs.Beginnings.{Begins, at_begins, begins_left, begins_right}
 use Rattle.py_language.proofs.Agreement.{Agrees}
 
 module _ {T : Type 0} (code : T → ℕ) where
@@ -25,6 +25,19 @@ module _ {T : Type 0} (code : T → ℕ) where
 
   pub looks_where : (one two : List ℕ) (test : List Tree → Bool) (a : Language T) → Looks one two a → Looks one two (Where test a)
   looks_where one two test a A front rest out h = A front rest out h.0
+
+  -- a token, and a phrase that begins with the second of the two
+  pub looks_skipped : (one two : List ℕ) (b : Language T) → ((front : List T) (out : List Tree) → b front out → Begins code false two front) → Looks one two (Then (Skipped code one) b)
+  looks_skipped one two b starts front rest out h =
+      let e1 = h.first.is_in in
+      let e2 = at_begins code two h.back rest (starts h.back h.back_out h.second) in
+      rw (h.tokens, h.first.tokens, e1) e2
+
+  pub looks_shown : (one two : List ℕ) (node_of : T → Node) (b : Language T) → ((front : List T) (out : List Tree) → b front out → Begins code false two front) → Looks one two (Then (Shown code node_of one) b)
+  looks_shown one two node_of b starts front rest out h =
+      let e1 = h.first.is_in in
+      let e2 = at_begins code two h.back rest (starts h.back h.back_out h.second) in
+      rw (h.tokens, h.first.tokens, e1) e2
 
   -- two tokens that make no nodes, and a phrase behind them, in a node
   pub looks_two : (one two : List ℕ) (over : List T → List Tree → List Tree) (a : Language T) → Looks one two (Made over (Then (Skipped code one) (Then (Skipped code two) a)))
@@ -56,6 +69,13 @@ module _ {T : Type 0} (code : T → ℕ) where
 
   pub alone_where : (one d : List ℕ) (test : List Tree → Bool) (q : Reader T) → ReadsAlone one d q → ReadsAlone one d (where_ test q)
   alone_where one d test q alone t ts out rest h s e = alone t ts out rest h s (filter_got test (q (t ∷ ts)) out rest e).0
+
+  pub alone_skipped : (one d set : List ℕ) → ReadsAlone one d (skipped code set)
+  alone_skipped one d set t ts out rest h s e = same_rest [] out ts rest (test_got (mem (code t) set) (got [] ts) out rest e).1
+
+  pub alone_shown : (one d : List ℕ) (node_of : T → Node) (set : List ℕ) → ReadsAlone one d (shown code node_of set)
+  alone_shown one d node_of set t ts out rest h s e =
+      let leaf = record { node = node_of t; kids = none } ∷ [] in same_rest leaf out ts rest (test_got (mem (code t) set) (got leaf ts) out rest e).1
 
   -- the second of a choice, where the first begins with no such token
   pub alone_choose : (set one d : List ℕ) (p q : Reader T) → are_apart one set ≡ true → ReadsAlone one d q → ReadsAlone one d (choose code set p q)

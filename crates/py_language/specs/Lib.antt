@@ -1,4 +1,5 @@
 pub mod Brackets
+pub mod Forms
 pub mod Languages
 pub mod Nesting
 pub mod Readers

@@ -68,9 +68,11 @@ abbrev pub times : {T : Type 0} → (T → ℕ) → List ℕ → Reader T → �
 times code set p zero = nothing
 times code set p (suc n) = choose code set (both p (times code set p n)) nothing
 
+-- as often as the front token is in the set
 abbrev pub many : {T : Type 0} → (T → ℕ) → List ℕ → Reader T → Reader T
 many code set p ts = times code set p (length ts) ts
 
+-- once, and then as often as the front token is in the set
 abbrev pub some : {T : Type 0} → (T → ℕ) → List ℕ → Reader T → Reader T
 some code set p = both p (many code set p)
 
@@ -80,9 +82,11 @@ more_items code separator set p zero = nothing
 more_items code separator set p (suc n) =
     choose code separator (both (skipped code separator) (choose code set (both p (more_items code separator set p n)) nothing)) nothing
 
+-- an item, and those behind separators, with maybe one behind the last
 abbrev pub separated : {T : Type 0} → (T → ℕ) → List ℕ → List ℕ → Reader T → Reader T
 separated code separator set p = both p (λ ts. more_items code separator set p (length ts) ts)
 
+-- between a token that opens and one that closes
 abbrev pub bracketed : {T : Type 0} → (T → ℕ) → List ℕ → List ℕ → Reader T → Reader T
 bracketed code opening closing p = both (skipped code opening) (both p (skipped code closing))
 
@@ -93,6 +97,7 @@ abbrev pub at_two : {T : Type 0} → (T → ℕ) → List ℕ → List ℕ → L
 at_two code one two [] = false
 at_two code one two (t ∷ ts) = if mem (code t) one then at code two ts else false
 
+-- the first where the two tokens at the front are in these sets, and else the second
 abbrev pub choose_by_two : {T : Type 0} → (T → ℕ) → List ℕ → List ℕ → Reader T → Reader T → Reader T
 choose_by_two code one two p q ts = if at_two code one two ts then p ts else q ts
 
@@ -102,10 +107,12 @@ choose_by_two code one two p q ts = if at_two code one two ts then p ts else q t
 abbrev pub Cont : Type 0 → Type 0
 Cont T = List T → List Tree → Reader T
 
+-- what goes on behind a reading, where all tokens from its start are these
 abbrev pub continue : {T : Type 0} → List T → Read T → Cont T → Read T
 continue all fails k = fails
 continue all (got u rest) k = k all u rest
 
+-- a reader, and what goes on behind it
 abbrev pub followed : {T : Type 0} → Reader T → Cont T → Reader T
 followed p k ts = continue ts (p ts) k
 
@@ -128,6 +135,7 @@ finished over all u ts = got (over (before all ts) u) ts
 abbrev pub pick : {T : Type 0} → (T → ℕ) → List ℕ → Cont T → Cont T → Cont T
 pick code set k l all u ts = if at code set ts then k all u ts else l all u ts
 
+-- where the front token is in the set, and else nothing more
 abbrev pub maybe_more : {T : Type 0} → (T → ℕ) → List ℕ → Cont T → Cont T
 maybe_more code set k = pick code set k nothing_more
 
@@ -136,11 +144,13 @@ abbrev pub turns : {T : Type 0} → (T → ℕ) → List ℕ → Cont T → ℕ 
 turns code set k zero = nothing_more
 turns code set k (suc n) = maybe_more code set (λ all u ts. continue all (k all u ts) (turns code set k n))
 
+-- a reader, and then turns as often as the front token is in the set
 abbrev pub in_turns : {T : Type 0} → (T → ℕ) → Reader T → List ℕ → Cont T → Reader T
 in_turns code p set k ts = continue ts (p ts) (turns code set k (length ts))
 
 -- ---- whole lists
 
+-- the first reading, and where it failed the second
 abbrev pub else_ : {T : Type 0} → Read T → Read T → Read T
 else_ fails s = s
 else_ (got u rest) s = got u rest
@@ -149,6 +159,7 @@ else_ (got u rest) s = got u rest
 abbrev pub or_else : {T : Type 0} → Reader T → Reader T → Reader T
 or_else p q ts = else_ (p ts) (q ts)
 
+-- a reading that left nothing
 abbrev pub to_the_end : {T : Type 0} → Read T → Read T
 to_the_end fails = fails
 to_the_end (got u []) = got u []
