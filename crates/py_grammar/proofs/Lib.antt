@@ -27,3 +27,4 @@ pub mod Rows7
 pub mod Statements
 pub mod Trying
 pub mod Weighing
+pub mod WholeLines
