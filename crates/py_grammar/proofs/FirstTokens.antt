@@ -1,13 +1,11 @@
 -- The first tokens of a line and the symbols that they are.
-use Rattle.std.proofs.Common.{◌≡◌, ℕ, Bool, true, false, ◌==◌, ◌||◌, List, [], ◌∷◌, ◌++◌, slice_index_or, refl, sym, ap, ◌∙◌, arith}
+use Rattle.std.proofs.Common.{◌≡◌, ℕ, true, false, ◌==◌, ◌||◌, List, [], ◌∷◌, ◌++◌, slice_index_or, refl, sym, ap, ◌∙◌, arith}
 use Rattle.py_language.specs.Sets.{mem}
-use Rattle.py_language.specs.Languages.{Then}
 use Rattle.py_language.proofs.Beginnings.{Begins}
 use Rattle.py_grammar.specs.declared.symbol.Symbol.{Symbol}
 use Rattle.py_grammar.specs.declared.symbol.Symbol.TheVariants as s
 use Rattle.py_grammar.specs.Symbols.{number_of}
-use Rattle.py_grammar.specs.Terminals.{Terminal, Form, code, first_of, second_of}
-use Rattle.py_grammar.specs.Nodes.{Token}
+use Rattle.py_grammar.specs.Terminals.{Terminal, code, first_of, second_of}
 
 -- ---- symbols by their numbers
 

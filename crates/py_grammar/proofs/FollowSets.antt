@@ -98,7 +98,6 @@ lambda_parameters_more = parameter_first ++ comma ++ lambda_parameter_more
 
 -- ---- patterns
 
-
 abbrev pub literal_more : List ℕ
 literal_more = sum_operator ++ strings_first
 
@@ -113,6 +112,7 @@ pattern_more = as_word ++ or_pattern_more
 
 abbrev pub class_argument_more : List ℕ
 class_argument_more = assign ++ pattern_more
+
 abbrev pub sequence_more : List ℕ
 sequence_more = sequence_first ++ comma ++ pattern_more
 
@@ -121,16 +121,22 @@ sequence_more = sequence_first ++ comma ++ pattern_more
 -- names and expressions with commas
 abbrev pub alias_more : List ℕ
 alias_more = as_word ++ dot
+
 abbrev pub aliases_more : List ℕ
 aliases_more = comma ++ alias_more
+
 abbrev pub source_more : List ℕ
 source_more = dots ++ name
+
 abbrev pub annotated_more : List ℕ
 annotated_more = assign ++ value_more
+
 abbrev pub value_statement_more : List ℕ
 value_statement_more = augmented_operator ++ colon ++ annotated_more
+
 abbrev pub statement_more : List ℕ
 statement_more = name ++ aliases_more ++ left_paren ++ value_statement_more
+
 abbrev pub statements_more : List ℕ
 statements_more = statement_first ++ semicolon ++ statement_more
 
@@ -138,13 +144,17 @@ statements_more = statement_first ++ semicolon ++ statement_more
 
 abbrev pub parameter_more : List ℕ
 parameter_more = colon ++ lambda_parameter_more
+
 abbrev pub parameters_more : List ℕ
 parameters_more = parameter_first ++ comma ++ parameter_more
+
 -- behind an expression that may have a name or a target
 abbrev pub as_more : List ℕ
 as_more = as_word ++ test_more
+
 abbrev pub with_more : List ℕ
 with_more = comma ++ as_more
+
 abbrev pub case_more : List ℕ
 case_more = sequence_more ++ named_more
 

@@ -1,14 +1,14 @@
 -- Each reader of a header agrees with its form: what may go on behind it is no `:`.
-use Rattle.std.proofs.Common.{◌≡◌, ℕ, Bool, true, false, List, [], ◌∷◌, ◌++◌, refl}
+use Rattle.std.proofs.Common.{false, [], ◌++◌, refl}
 use Rattle.tree_nodes.specs.declared.kind.Kind.TheVariants as kinds
 use Rattle.py_language.specs.Languages.{Then, Maybe}
 use Rattle.py_language.specs.Readers.{both, optional}
 use Rattle.py_language.proofs.Looking.{ReadsAlone}
 use Rattle.py_grammar.specs.declared.entry.Entry.{Entry}
 use Rattle.py_grammar.specs.declared.entry.Entry.TheVariants as e
-use Rattle.py_grammar.specs.Terminals.{Terminal, Form, code}
-use Rattle.py_grammar.specs.Words.{opens, closes, name, arrow, as_word, assign, at_sign, case_word, class_word, colon, def_word, double_star, except_word, for_word, if_word, in_word, match_word, slash, star, with_word, left_paren, comma}
-use Rattle.py_grammar.specs.Firsts.{test_first, argument_first, element_first, parameter_first, entry_first}
+use Rattle.py_grammar.specs.Terminals.{Form, code}
+use Rattle.py_grammar.specs.Words.{name, arrow, as_word, assign, at_sign, case_word, class_word, colon, def_word, double_star, except_word, for_word, if_word, in_word, match_word, slash, star, with_word, left_paren}
+use Rattle.py_grammar.specs.Firsts.{test_first, element_first, parameter_first, entry_first}
 use Rattle.py_grammar.specs.Nodes.{first_text, second_text, plain_leaf, Token, As}
 use Rattle.py_grammar.specs.Tests.{parameters_in_order}
 use Rattle.py_grammar.specs.Expressions.{star_parameter, keyword_only_behind_star, Named}
@@ -17,8 +17,8 @@ use Rattle.py_grammar.specs.Headers.{ParameterAnnotation, StarAnnotation, Parame
 use Rattle.py_grammar.specs.Reading.{LineReader, token, as_, named_at}
 use Rattle.py_grammar.specs.ReadingStatements.{as_name_at}
 use Rattle.py_grammar.specs.ReadingHeaders.{parameter_annotation_at, star_annotation_at, parameter_at, parameters_at, for_header_at, except_header_at, except_star_header_at, with_item_at, plain_with_at, parenthesized_with_at, function_header_at, class_header_at, subject_at, match_header_at, case_header_at, decorator_line_at}
-use Rattle.py_grammar.proofs.FollowSets.{bit_or_more, test_more, named_more, sx_more, elements_more, arguments_more, pattern_more, parameter_more, parameters_more, as_more, with_more, case_more, entry_more}
-use Rattle.py_grammar.proofs.Building.{Reads, as_sets, a_token, a_leaf, in_a_row, behind_token, one_of, perhaps, over_it, under, a_node, a_named_node, a_node_behind, with_commas, joined_by_commas, behind_comma, a_tuple, between_parentheses, a_target}
+use Rattle.py_grammar.proofs.FollowSets.{bit_or_more, test_more, named_more, sx_more, elements_more, pattern_more, parameter_more, parameters_more, as_more, with_more, case_more, entry_more}
+use Rattle.py_grammar.proofs.Building.{Reads, as_sets, a_leaf, in_a_row, behind_token, one_of, perhaps, over_it, under, a_node, a_named_node, a_node_behind, with_commas, joined_by_commas, behind_comma, a_tuple, between_parentheses, a_target}
 use Rattle.py_grammar.proofs.Expressions.{reads_star, reads_named, reads_element, reads_sx, reads_target_item, reads_targets, reads_arguments}
 use Rattle.py_grammar.proofs.Patterns.{reads_open_patterns}
 use Rattle.py_grammar.proofs.Statements.{reads_as_name}

@@ -1,23 +1,20 @@
 -- The readers of the parts of a line give exactly what the rows of the grammar say: a header and its `:` with what stands
 -- behind it, a header alone, simple statements, a decorator, and one row before another.
-use Rattle.std.proofs.Common.{◌≡◌, ℕ, zero, suc, ◌≤◌, Bool, true, false, cond, nat_le, List, [], ◌∷◌, ◌++◌, ◌⊎◌, inl, inr, Option, Some, None, refl, sym, ap, subst, ◌∙◌, append_assoc}
+use Rattle.std.proofs.Common.{◌≡◌, ℕ, Bool, true, false, cond, nat_le, List, [], ◌∷◌, ◌++◌, ◌⊎◌, inl, inr, Option, Some, None, refl, sym, ap, subst, ◌∙◌, append_assoc}
 use Rattle.std.proofs.lemmas.List.{append-nil}
 use Rattle.std.proofs.lemmas.Bool.{leb-true, le-leb}
 use Rattle.tree_nodes.specs.Trees.{Tree}
-use Rattle.py_language.specs.Sets.{mem, at, are_apart, is_within}
+use Rattle.py_language.specs.Sets.{at, are_apart}
 use Rattle.py_language.specs.Languages.{Then, Maybe}
 use Rattle.py_language.specs.Nesting.{nesting_of}
 use Rattle.py_language.specs.Readers.{Read, got, fails, both}
-use Rattle.py_language.proofs.SetLaws.{not_true}
-use Rattle.py_language.proofs.Beginnings.{Begins}
 use Rattle.py_language.proofs.Agreement.{then_of}
 use Rattle.py_grammar.specs.declared.entry.Entry.{Entry}
-use Rattle.py_grammar.specs.declared.entry.Entry.TheVariants as e
 use Rattle.py_grammar.specs.declared.head.Head.{Head}
 use Rattle.py_grammar.specs.declared.head.Head.TheVariants as heads
 use Rattle.py_grammar.specs.Terminals.{Terminal, Form, code}
-use Rattle.py_grammar.specs.Words.{name, colon}
-use Rattle.py_grammar.specs.Firsts.{statement_first, entry_first}
+use Rattle.py_grammar.specs.Words.{colon}
+use Rattle.py_grammar.specs.Firsts.{statement_first}
 use Rattle.py_grammar.specs.Nodes.{Token}
 use Rattle.py_grammar.specs.Statements.{Statements}
 use Rattle.py_grammar.specs.Weights.{weight}
@@ -25,7 +22,7 @@ use Rattle.py_grammar.specs.Lines.{LineForm, IsHeaded, IsShallow}
 use Rattle.py_grammar.specs.Reading.{LineReader, token}
 use Rattle.py_grammar.specs.ReadingStatements.{statements_at}
 use Rattle.py_grammar.specs.ReadingLines.{shallow, or_line, with_body, without_body, behind_header, headed_at, bare_at, simple_at}
-use Rattle.py_grammar.proofs.FollowSets.{test_more, statements_more, entry_more}
+use Rattle.py_grammar.proofs.FollowSets.{statements_more}
 use Rattle.py_grammar.proofs.Building.{Reads, a_token, in_a_row}
 
 -- what may be read from some tokens: nodes and simple statements

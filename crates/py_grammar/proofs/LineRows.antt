@@ -1,13 +1,12 @@
 -- Each kind of line with phrases of one depth: the reader of its row gives exactly what the row says.
-use Rattle.std.proofs.Common.{◌≡◌, ℕ, true, false, List, [], ◌∷◌, ◌++◌, ◌⊎◌, refl}
-use Rattle.tree_nodes.specs.Trees.{Tree}
+use Rattle.std.proofs.Common.{false, [], ◌++◌, ◌⊎◌, refl}
 use Rattle.py_language.specs.Readers.{both}
 use Rattle.py_language.proofs.Looking.{ReadsAlone}
 use Rattle.py_grammar.specs.declared.entry.Entry.{Entry}
 use Rattle.py_grammar.specs.declared.entry.Entry.TheVariants as e
 use Rattle.py_grammar.specs.declared.head.Head.{Head}
 use Rattle.py_grammar.specs.declared.head.Head.TheVariants as heads
-use Rattle.py_grammar.specs.Terminals.{Terminal, Form, code}
+use Rattle.py_grammar.specs.Terminals.{Form, code}
 use Rattle.py_grammar.specs.Words.{name, async_word, elif_word, else_word, finally_word, if_word, try_word, while_word, arrow}
 use Rattle.py_grammar.specs.Firsts.{statement_first, entry_first}
 use Rattle.py_grammar.specs.Statements.{Statements}

@@ -1,11 +1,10 @@
 -- The reader of a line gives a line exactly where its tokens spell it with phrases of the reader's depth.
-use Rattle.std.proofs.Common.{◌≡◌, ℕ, Bool, true, false, List, [], ◌∷◌, ◌++◌, inl, inr, Option, Some, None, refl, sym, ap, ◌∙◌, append_assoc}
+use Rattle.std.proofs.Common.{◌≡◌, ℕ, true, false, List, [], ◌∷◌, ◌++◌, inl, inr, Option, Some, None, refl, sym, ap, ◌∙◌, append_assoc}
 use Rattle.std.proofs.lemmas.List.{append-nil}
 use Rattle.tree_nodes.specs.Trees.{Tree}
 use Rattle.py_language.specs.Sets.{mem}
 use Rattle.py_language.specs.Languages.{Then}
 use Rattle.py_language.proofs.SetLaws.{mem_append, or_right}
-use Rattle.py_language.proofs.Beginnings.{Begins}
 use Rattle.py_language.proofs.Looking.{ReadsAlone}
 use Rattle.py_grammar.specs.declared.entry.Entry.{Entry}
 use Rattle.py_grammar.specs.declared.entry.Entry.TheVariants as e
@@ -15,20 +14,19 @@ use Rattle.py_grammar.specs.declared.symbol.Symbol.{Symbol}
 use Rattle.py_grammar.specs.declared.symbol.Symbol.TheVariants as s
 use Rattle.py_grammar.specs.Symbols.{number_of}
 use Rattle.py_grammar.specs.Terminals.{Terminal, Form, code, first_of, second_of}
-use Rattle.py_grammar.specs.Words.{name, async_word, at_sign, case_word, class_word, colon, def_word, elif_word, else_word, except_word, finally_word, for_word, if_word, match_word, star, try_word, while_word, with_word}
+use Rattle.py_grammar.specs.Words.{name, async_word, at_sign, case_word, colon, else_word, finally_word, match_word, star, try_word, with_word}
 use Rattle.py_grammar.specs.Firsts.{statement_first, test_first, entry_first}
 use Rattle.py_grammar.specs.Nodes.{Token}
 use Rattle.py_grammar.specs.Headers.{ExceptHeader, ExceptStarHeader, MatchHeader, CaseHeader}
-use Rattle.py_grammar.specs.Lines.{LineForm, Row, IsHeaded, PhraseWithin, headed, bare, async, simple}
+use Rattle.py_grammar.specs.Lines.{LineForm, IsHeaded, headed, bare, async}
 use Rattle.py_grammar.specs.Reading.{LineReader}
 use Rattle.py_grammar.specs.ReadingHeaders.{except_header_at, except_star_header_at, match_header_at, case_header_at}
-use Rattle.py_grammar.specs.ReadingLines.{phrase_at, or_line, headed_at, bare_at, simple_at, async_line_at, except_line_at, line_by, line_at}
+use Rattle.py_grammar.specs.ReadingLines.{or_line, headed_at, bare_at, simple_at, async_line_at, except_line_at, line_by, line_at}
 use Rattle.py_grammar.proofs.FollowSets.{test_more, pattern_more, entry_more}
 use Rattle.py_grammar.proofs.Building.{Reads, a_token}
 use Rattle.py_grammar.proofs.Headers.{reads_for_header, reads_except_header, reads_except_star_header, reads_plain_with, reads_parenthesized_with, reads_function_header, reads_class_header, reads_match_header, reads_case_header, reads_decorator_line}
-use Rattle.py_grammar.proofs.Phrases.{agree_phrase, name_is_test, name_is_pattern}
 use Rattle.py_grammar.proofs.FirstTokens.{only_symbol, first_in, second_in}
-use Rattle.py_grammar.proofs.LineParts.{Parts, Nowhere, Gives, or_line_some, none_nowhere, nowhere_none}
+use Rattle.py_grammar.proofs.LineParts.{Nowhere, Gives, or_line_some, none_nowhere, nowhere_none}
 use Rattle.py_grammar.proofs.LineRows.{FitsWith, with_items_of, IsSpelled, reads_body, reads_if, reads_elif, reads_while, reads_async_for, reads_async_function, reads_async_items, reads_async_with, gives_decorator, gives_if, gives_elif, gives_else, gives_while, gives_for, gives_async_for, gives_try, gives_except, gives_except_star, gives_finally, gives_with, gives_async_with, gives_function, gives_async_function, gives_class, gives_match, gives_case, gives_statements}
 
 -- ---- how headers begin

@@ -1,23 +1,21 @@
 -- Each reader of a pattern agrees with its form.
-use Rattle.std.proofs.Common.{◌≡◌, ℕ, Bool, true, false, List, [], ◌∷◌, ◌++◌, inl, inr, refl}
-use Rattle.tree_nodes.specs.Trees.{Node, none, Tree}
-use Rattle.tree_nodes.specs.declared.kind.Kind.{Kind}
+use Rattle.std.proofs.Common.{false, [], ◌++◌, refl}
 use Rattle.tree_nodes.specs.declared.kind.Kind.TheVariants as kinds
-use Rattle.py_language.specs.Languages.{Then, Nothing, Either, Maybe, Many, Made, Where, whole, row}
-use Rattle.py_language.specs.Readers.{both, many, choose, optional, extended, made, where_}
+use Rattle.py_language.specs.Languages.{Then, Either, Where, whole, row}
+use Rattle.py_language.specs.Readers.{both, choose, where_}
 use Rattle.py_language.proofs.Finishing.{agree_finished}
 use Rattle.py_language.proofs.Looking.{ReadsAlone, looks_two}
 use Rattle.py_grammar.specs.declared.entry.Entry.{Entry}
 use Rattle.py_grammar.specs.declared.entry.Entry.TheVariants as e
-use Rattle.py_grammar.specs.Terminals.{Terminal, Form, code}
+use Rattle.py_grammar.specs.Terminals.{Form, code}
 use Rattle.py_grammar.specs.Words.{opens, closes, name, capture, number, constant_word, as_word, left_paren, left_bracket, left_brace, comma, colon, dot, assign, star, double_star, bar, minus, sum_operator}
-use Rattle.py_grammar.specs.Firsts.{strings_first, signed_first, literal_first, pattern_first, sequence_first, mapping_first, entry_first}
-use Rattle.py_grammar.specs.Nodes.{spanning, called, first_text, second_text, last_text, atom_leaf, operator_leaf, Token, Leaf, As, CommaRest}
-use Rattle.py_grammar.specs.Patterns.{is_complex, name_pattern, star_pattern, has_one_star, sequence_has_one_star, pattern_in_parentheses, rest_is_last, keywords_behind_patterns, is_unformatted, is_dotted, SignedNumber, NumberPattern, Literal, Dotted, DottedName, ClassArgument, ClassArguments, NamePattern, StarPattern, SequenceItem, ParenthesizedPattern, BracketedPattern, MappingItem, MappingPattern, ClosedPattern, OrPattern, Pattern, OpenPatterns}
-use Rattle.py_grammar.specs.Reading.{LineReader, token, leaf, as_, comma_rest}
+use Rattle.py_grammar.specs.Firsts.{signed_first, literal_first, pattern_first, sequence_first, mapping_first, entry_first}
+use Rattle.py_grammar.specs.Nodes.{spanning, called, first_text, second_text, last_text, atom_leaf, operator_leaf, CommaRest}
+use Rattle.py_grammar.specs.Patterns.{is_complex, name_pattern, star_pattern, has_one_star, sequence_has_one_star, pattern_in_parentheses, rest_is_last, keywords_behind_patterns, is_unformatted, is_dotted, SignedNumber, NumberPattern, Literal, DottedName, ClassArgument, ClassArguments, NamePattern, StarPattern, SequenceItem, ParenthesizedPattern, BracketedPattern, MappingItem, MappingPattern, ClosedPattern, OrPattern, Pattern, OpenPatterns}
+use Rattle.py_grammar.specs.Reading.{LineReader, comma_rest}
 use Rattle.py_grammar.specs.ReadingPatterns.{signed_number_at, number_pattern_at, literal_at, dotted_name_at, class_argument_at, class_arguments_at, name_pattern_at, star_pattern_at, sequence_item_at, parenthesized_pattern_at, bracketed_pattern_at, mapping_item_at, mapping_pattern_at, closed_pattern_at, or_pattern_at, pattern_at, open_patterns_at}
 use Rattle.py_grammar.proofs.FollowSets.{test_more, literal_more, class_argument_more, closed_pattern_more, or_pattern_more, pattern_more, sequence_more, entry_more}
-use Rattle.py_grammar.proofs.Building.{Reads, GoesOn, as_sets, a_token, a_leaf, in_a_row, behind_token, one_of, perhaps, by_two, over_it, under, a_node, a_named_node, a_node_behind, operands, with_commas, behind_comma, a_tuple, between_parentheses, between_brackets, between_braces, a_node_from, a_named_node_from, maybe_one, steps_on, a_pair}
+use Rattle.py_grammar.proofs.Building.{Reads, as_sets, a_token, a_leaf, in_a_row, behind_token, one_of, perhaps, by_two, over_it, under, a_node, a_named_node, a_node_behind, operands, with_commas, behind_comma, a_tuple, between_parentheses, between_brackets, between_braces, a_node_from, a_named_node_from, maybe_one, steps_on, a_pair}
 use Rattle.py_grammar.proofs.Operators.{reads_strings}
 
 module _ (P : Entry → LineReader) (L : Entry → Form) (known : (x : Entry) → Reads false (entry_first x) (entry_more x) (P x) (L x)) (alone : ReadsAlone code name test_more (P e.Test)) (alone_pattern : ReadsAlone code name pattern_more (P e.Pattern)) where

@@ -1,9 +1,8 @@
 -- Phrases at every depth are read as the forms say. A name alone is an expression and a pattern, which the choices by two
 -- tokens rest on.
-use Rattle.std.proofs.Common.{◌≡◌, ℕ, zero, suc, Bool, true, false, List, [], ◌∷◌, ◌++◌, inl, inr, refl}
-use Rattle.tree_nodes.specs.Trees.{Node, none, Tree}
+use Rattle.std.proofs.Common.{◌≡◌, ℕ, zero, suc, true, false, List, [], ◌∷◌, ◌++◌, inl, inr, refl}
+use Rattle.tree_nodes.specs.Trees.{none, Tree}
 use Rattle.tree_nodes.specs.declared.kind.Kind.{Kind}
-use Rattle.tree_nodes.specs.declared.kind.Kind.TheVariants as kinds
 use Rattle.py_language.specs.Sets.{mem}
 use Rattle.py_language.specs.Languages.{Then, Many, row}
 use Rattle.py_language.proofs.SetLaws.{within_mem}

@@ -1,24 +1,22 @@
 -- Each reader of a simple statement agrees with its form.
-use Rattle.std.proofs.Common.{◌≡◌, ℕ, Bool, true, false, List, [], ◌∷◌, ◌++◌, inl, inr, refl, sym, ◌∙◌}
-use Rattle.tree_nodes.specs.Trees.{Node, none, Tree}
+use Rattle.std.proofs.Common.{false, [], ◌++◌, refl}
 use Rattle.tree_nodes.specs.declared.kind.Kind.TheVariants as kinds
-use Rattle.py_language.specs.Languages.{Then, Nothing, Either, Maybe, Many, Made, Where, Some as OneOrMore, whole}
-use Rattle.py_language.specs.Readers.{Cont, both, many, some, choose, optional, extended, extended_where, followed, pick, finished}
+use Rattle.py_language.specs.Languages.{Then, Maybe, Made, Where, Some as OneOrMore, whole}
+use Rattle.py_language.specs.Readers.{both, some, optional, extended_where}
 use Rattle.py_language.proofs.Finishing.{continues_where, agree_finished_three}
 use Rattle.py_language.proofs.Looking.{ReadsAlone}
 use Rattle.py_language.proofs.Separation.{agree_separated}
 use Rattle.py_grammar.specs.declared.entry.Entry.{Entry}
 use Rattle.py_grammar.specs.declared.entry.Entry.TheVariants as e
-use Rattle.py_grammar.specs.Terminals.{Terminal, Form, code}
-use Rattle.py_grammar.specs.Words.{opens, closes, name, as_word, assert_word, del_word, from_word, global_word, import_word, nonlocal_word, raise_word, return_word, yield_word, lone_word, left_paren, comma, colon, dot, dots, semicolon, assign, star, augmented_operator}
-use Rattle.py_grammar.specs.Firsts.{test_first, factor_first, element_first, value_first, keyword_statement_first, statement_first, entry_first}
-use Rattle.py_grammar.specs.Nodes.{spanning, called, first_text, dotted_name, module_text, named_leaf, plain_leaf, operator_leaf, Token, Leaf, As}
-use Rattle.py_grammar.specs.Expressions.{Sx, Yield}
+use Rattle.py_grammar.specs.Terminals.{Form, code}
+use Rattle.py_grammar.specs.Words.{opens, closes, name, as_word, assert_word, del_word, from_word, global_word, import_word, nonlocal_word, raise_word, return_word, lone_word, left_paren, comma, colon, dot, dots, semicolon, assign, star, augmented_operator}
+use Rattle.py_grammar.specs.Firsts.{test_first, value_first, keyword_statement_first, statement_first, entry_first}
+use Rattle.py_grammar.specs.Nodes.{spanning, first_text, dotted_name, module_text, named_leaf, plain_leaf, operator_leaf, Token, Leaf, As}
 use Rattle.py_grammar.specs.Statements.{targets_before_last, is_single_first, are_deletable, assigned, augmented, annotated, deleted, lone_leaf, Value, Assign, AugAssign, AnnAssign, Return, Raise, Declaration, Delete, Assert, AsName, ModuleName, Import, ImportedName, ImportedNames, Source, ImportFrom, KeywordStatement, ValueStatement, Statement, Statements}
-use Rattle.py_grammar.specs.Reading.{LineReader, token, leaf, as_, yield_at, sx_at}
+use Rattle.py_grammar.specs.Reading.{LineReader, token, leaf, as_}
 use Rattle.py_grammar.specs.ReadingStatements.{value_at, assigned_value_at, return_at, raise_at, declaration_at, delete_at, assert_at, as_name_at, module_name_at, import_at, imported_name_at, imported_names_at, source_at, import_from_at, keyword_statement_at, value_statement_at, statement_at, statements_at}
-use Rattle.py_grammar.proofs.FollowSets.{bit_or_more, test_more, sx_more, value_more, alias_more, aliases_more, source_more, annotated_more, value_statement_more, statement_more, statements_more, entry_more}
-use Rattle.py_grammar.proofs.Building.{Reads, GoesOn, as_sets, a_token, a_leaf, in_a_row, behind_token, one_of, perhaps, any_number, one_or_more, over_it, under, a_node, a_named_node, a_node_behind, with_commas, joined_by_commas, between_parentheses, from_one_of}
+use Rattle.py_grammar.proofs.FollowSets.{test_more, sx_more, value_more, alias_more, aliases_more, source_more, annotated_more, value_statement_more, statement_more, statements_more, entry_more}
+use Rattle.py_grammar.proofs.Building.{Reads, GoesOn, as_sets, a_token, a_leaf, in_a_row, behind_token, one_of, perhaps, any_number, one_or_more, over_it, under, a_node, a_named_node, a_node_behind, with_commas, joined_by_commas, between_parentheses}
 use Rattle.py_grammar.proofs.Expressions.{reads_sx, reads_behind_yield, reads_yield}
 
 module _ (P : Entry → LineReader) (L : Entry → Form) (known : (x : Entry) → Reads false (entry_first x) (entry_more x) (P x) (L x)) (alone : ReadsAlone code name test_more (P e.Test)) where

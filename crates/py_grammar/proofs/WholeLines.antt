@@ -1,6 +1,6 @@
 -- A line is read exactly where its tokens spell it: with brackets b deep at most, phrases within the depth 201 + b are all
 -- that is to be looked at. So tokens spell at most one line.
-use Rattle.std.proofs.Common.{◌≡◌, ℕ, ◌+◌, ◌≤◌, ◌↔◌, List, inl, inr, Option, Some, refl, sym, ◌∙◌, arith}
+use Rattle.std.proofs.Common.{◌≡◌, ℕ, ◌+◌, ◌≤◌, ◌↔◌, List, inl, inr, Some, refl, sym, ◌∙◌, arith}
 use Rattle.tree_nodes.specs.Trees.{Tree}
 use Rattle.py_language.specs.Brackets.{peak}
 use Rattle.py_grammar.specs.declared.entry.Entry.{Entry}
