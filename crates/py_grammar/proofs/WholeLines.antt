@@ -1,6 +1,6 @@
 -- A line is read exactly where its tokens spell it: with brackets b deep at most, phrases within the depth 201 + b are all
 -- that is to be looked at. So tokens spell at most one line.
-use Rattle.std.proofs.Common.{◌≡◌, ℕ, ◌+◌, ◌≤◌, ◌↔◌, List, inl, inr, Some, refl, sym, ◌∙◌, arith}
+use Rattle.std.proofs.Common.{◌≡◌, ℕ, ◌+◌, ◌≤◌, ◌↔◌, List, inl, inr, Option, Some, None, refl, sym, ◌∙◌, arith}
 use Rattle.tree_nodes.specs.Trees.{Tree}
 use Rattle.py_language.specs.Brackets.{peak}
 use Rattle.py_grammar.specs.declared.entry.Entry.{Entry}
@@ -107,3 +107,17 @@ line_unique ts line line' h h' =
     let b = peak code opens closes 0 ts in
     let few : b ≤ b = omega arith in
     same_line line line' (sym ((line_is_read b ts line few).1 h) ∙ (line_is_read b ts line' few).1 h')
+
+-- where no line is read, tokens spell none
+pub no_line : (b : ℕ) (ts : List Terminal) → peak code opens closes 0 ts ≤ b → line_at (phrase_at (201 + b)) ts ≡ None ↔ ((line : LineForm) → IsLine ts line → ⊥)
+no_line b ts few = (
+  λ none line h. differ (line_at (phrase_at (201 + b)) ts) line none ((line_is_read b ts line few).1 h),
+  λ nowhere. none_of (line_at (phrase_at (201 + b)) ts) (λ line given. nowhere line ((line_is_read b ts line few).0 given)),
+)
+  where
+    differ : (o : Option LineForm) (line : LineForm) → o ≡ None → o ≡ Some line → ⊥
+    differ o line e e' = cc
+
+    none_of : (o : Option LineForm) → ((line : LineForm) → o ≡ Some line → ⊥) → o ≡ None
+    none_of None no' = refl
+    none_of (Some line) no' = absurd (no' line refl)
