@@ -10,7 +10,7 @@ use Rattle.py_language.proofs.NestingLaws.{whole_keeps}
 use Rattle.py_grammar.specs.Terminals.{Terminal}
 use Rattle.py_grammar.specs.Nodes.{spanning, called, second_text}
 use Rattle.py_grammar.specs.Tests.{kind_of, keyword_only, is_star, with_keyword_only, is_group, target_node, as_targets, as_target}
-use Rattle.py_grammar.specs.Expressions.{is_comprehension, ends_with_comma, in_parentheses, in_brackets, is_of_dict, in_braces, call_arguments, star_parameter, keyword_only_behind_star, bound}
+use Rattle.py_grammar.specs.Expressions.{is_comprehension, ends_with_comma, has_own_comma, in_parentheses, in_brackets, is_of_dict, in_braces, call_arguments, star_parameter, keyword_only_behind_star, bound}
 use Rattle.py_grammar.specs.Patterns.{pattern_in_parentheses}
 use Rattle.py_grammar.specs.Statements.{bound_before_last, bound_first, all_bound, assigned, augmented, annotated, deleted}
 use Rattle.py_grammar.specs.Weights.{weight}
@@ -28,7 +28,7 @@ over_all kind ts parts = whole_keeps weight (spanning kind) ts parts
 
 pub parentheses_keep : (ts : List Terminal) (parts : List Tree) → nesting_of weight parts ≤ nesting_of weight (in_parentheses ts parts)
 parentheses_keep ts [] = over_all kinds.Tuple ts []
-parentheses_keep ts (t ∷ []) = one_or_other (ends_with_comma ts) _ _ _ (over_all kinds.Tuple ts (t ∷ [])) (omega arith)
+parentheses_keep ts (t ∷ []) = one_or_other (has_own_comma ts) _ _ _ (over_all kinds.Tuple ts (t ∷ [])) (omega arith)
 parentheses_keep ts (t ∷ u ∷ parts) = one_or_other (is_comprehension (t ∷ u ∷ parts)) _ _ _ (over_all kinds.GeneratorExpression ts (t ∷ u ∷ parts)) (over_all kinds.Tuple ts (t ∷ u ∷ parts))
 
 pub brackets_keep : (ts : List Terminal) (parts : List Tree) → nesting_of weight parts ≤ nesting_of weight (in_brackets ts parts)

@@ -8,7 +8,7 @@ use Rattle.py_language.specs.Languages.{Then, Nothing, Either, Maybe, Many, Some
 use Rattle.py_grammar.specs.declared.symbol.Symbol.TheVariants as s
 use Rattle.py_grammar.specs.declared.entry.Entry.{Entry}
 use Rattle.py_grammar.specs.declared.entry.Entry.TheVariants as e
-use Rattle.py_grammar.specs.Terminals.{Terminal, Form, code, is_one_of, first_of, last_but_one_of}
+use Rattle.py_grammar.specs.Terminals.{Terminal, Form, code, is_one_of, first_of, second_of, last_but_one_of}
 use Rattle.py_grammar.specs.Words.{name, number, plain_string, byte_string, format_string, format_string_end, field_open, field_close, simple_atom, and_word, async_word, await_word, else_word, for_word, from_word, if_word, in_word, is_word, lambda_word, not_word, or_word, yield_word, comma, colon, dot, assign, walrus, star, double_star, slash, bar, caret, ampersand, sign, shift_operator, sum_operator, product_operator, comparison_operator}
 use Rattle.py_grammar.specs.Nodes.{spanning, called, first_text, second_text, last_text, strings_text, atom_leaf, operator_leaf, plain_leaf, Token, Leaf, As, Called, Row, Commas, CommaRest, Tupled, InParentheses, InBrackets, InBraces}
 use Rattle.py_grammar.specs.Tests.{kind_of, in_order, parameters_in_order, with_keyword_only, is_target, as_target}
@@ -30,11 +30,15 @@ is_comprehension parts = false
 abbrev pub ends_with_comma : List Terminal → Bool
 ends_with_comma ts = is_one_of (s.Comma ∷ []) (last_but_one_of ts)
 
--- round brackets hold nothing or several elements, or one with a comma, which is a tuple; an element with clauses, which is
--- a generator; or one expression, which makes no node of its own
+-- the same, but for the comma of a `yield`: `(yield a,)` is no tuple, though `a,` is one
+abbrev pub has_own_comma : List Terminal → Bool
+has_own_comma ts = if is_one_of (s.YieldWord ∷ []) (second_of ts) then false else ends_with_comma ts
+
+-- round brackets hold nothing or several elements, or one with a comma of its own, which is a tuple; an element with clauses,
+-- which is a generator; or one expression, which makes no node of its own
 abbrev pub in_parentheses : List Terminal → List Tree → List Tree
 in_parentheses ts [] = whole (spanning kinds.Tuple) ts []
-in_parentheses ts (t ∷ []) = if ends_with_comma ts then whole (spanning kinds.Tuple) ts (t ∷ []) else t ∷ []
+in_parentheses ts (t ∷ []) = if has_own_comma ts then whole (spanning kinds.Tuple) ts (t ∷ []) else t ∷ []
 in_parentheses ts (t ∷ u ∷ parts) =
     if is_comprehension (t ∷ u ∷ parts) then whole (spanning kinds.GeneratorExpression) ts (t ∷ u ∷ parts) else whole (spanning kinds.Tuple) ts (t ∷ u ∷ parts)
 
