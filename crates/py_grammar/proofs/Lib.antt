@@ -25,6 +25,10 @@ pub mod Rows5
 pub mod Rows6
 pub mod Rows7
 pub mod Statements
+pub mod TreeRows1
+pub mod TreeRows2
+pub mod TreeRows3
 pub mod Trying
+pub mod TryingTrees
 pub mod Weighing
 pub mod WholeLines
