@@ -3,10 +3,12 @@
 
 mod entry;
 mod head;
+mod laws;
 mod stage;
 mod symbol;
 
 pub use entry::Entry;
 pub use head::Head;
+pub use laws::{lines_are_read, lines_are_unique};
 pub use stage::Stage;
 pub use symbol::Symbol;
