@@ -31,10 +31,6 @@ GoesOn f c k step = Continues code opens closes f c k step
 pub as_sets : {n : Bool} {f c : List ℕ} {p : LineReader} {a : Form} (g d : List ℕ) → Reads n f c p a → is_within f g ≡ true → is_within c d ≡ true → Reads n g d p a
 as_sets g d A wf wc = agree_wider code opens closes A wf wc
 
--- what goes on is in another set
-pub more_in : {n : Bool} {f c : List ℕ} {p : LineReader} {a : Form} (d : List ℕ) → Reads n f c p a → is_within f f ≡ true → is_within c d ≡ true → Reads n f d p a
-more_in {n} {f} d A wf wc = agree_wider code opens closes A wf wc
-
 -- ---- tokens and leaves
 
 pub a_token : (set : List ℕ) → are_apart opens set ≡ true → are_apart closes set ≡ true → Reads false set [] (token set) (Token set)

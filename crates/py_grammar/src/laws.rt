@@ -9,12 +9,10 @@ ghost use Rattle.py_grammar.specs.Words.{closes, opens};
 /// Tokens spell one line at most.
 pub fn lines_are_unique()
     ensures { (ts : List Terminal) (one other : LineForm) → IsLine ts one → IsLine ts other → one ≡ other }
-{
-}
+{}
 
 /// What is read from the front, with descents for the brackets and for a nesting of 200, is what the tokens spell: all of it,
 /// and nothing else.
 pub fn lines_are_read()
     ensures { (b : ℕ) (ts : List Terminal) (line : LineForm) → peak code opens closes 0 ts ≤ b → (line_at (phrase_at (201 + b)) ts ≡ Some line) ↔ IsLine ts line }
-{
-}
+{}
