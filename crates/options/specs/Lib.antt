@@ -1,3 +1,10 @@
+pub mod Behind
+pub mod Edits
+pub mod Lines
+pub mod OneWord
+pub mod Options
+pub mod Seen
 pub mod Settings
+pub mod Switches
 pub mod Usage
 pub mod Words
