@@ -1,5 +1,7 @@
 pub mod Behind
+pub mod BehindEdits
 pub mod Edits
+pub mod File
 pub mod Lines
 pub mod OneWord
 pub mod Options

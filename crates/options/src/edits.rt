@@ -2,10 +2,11 @@
 ghost use Rattle.std.specs.Prelude.{◌≡◌, ◌++◌, [], ◌∷◌, true, OnOk, OnErr};
 ghost use Rattle.std.specs.Option.{option_copied};
 ghost use Rattle.option_words.specs.OptionNames.{kind};
-ghost use Rattle.options.specs.Edits.{allows, are_allowed, edit_of, given, is_allowed, is_edit_of, last_value};
+ghost use Rattle.options.specs.Edits.{allows, are_allowed, edit_of, given, is_edit_of, is_flag_value, last_value};
 
+use crate::form::is_flag;
 use lint_values::{Memory, Text};
-use option_words::OptionName;
+use option_words::{OptionName, fits};
 use std::alloc::Global;
 use std::marker::Model;
 
@@ -64,6 +65,19 @@ impl Edits {
     {
         self.edits.as_slice()
     }
+}
+
+fn is_flag_value(value: &str) -> bool
+    ensures { result ≡ is_flag_value value.now }
+{
+    value.is_empty() || value == "yes" || value == "no"
+}
+
+/// Whether an edit may give an option a value: a flag none, or yes or no as in the options file.
+pub(crate) fn allows(option: OptionName, value: &str) -> bool
+    ensures { result ≡ allows (kind option) value.now }
+{
+    fits(option, value) || (is_flag(option.kind()) && is_flag_value(value))
 }
 
 pub(crate) fn is_edit_of(option: OptionName, edit: &Edit) -> bool

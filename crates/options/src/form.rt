@@ -4,7 +4,6 @@ ghost use Rattle.std.specs.Option.{option_copied};
 ghost use Rattle.options.specs.Edits.{is_flag};
 ghost use Rattle.options.specs.Seen.{seen};
 ghost use Rattle.options.specs.Words.{alone, attached, behind_dash, double_dashed, form_of, lettered_form, long_form, short_form};
-ghost use Rattle.option_words.specs.OptionNames.{kind};
 
 use option_words::{Kind, OptionName};
 
@@ -17,10 +16,10 @@ pub(crate) enum WordForm<'w> {
     Attached(OptionName, &'w str),
 }
 
-pub(crate) fn is_flag(option: OptionName) -> bool
-    ensures { result ≡ is_flag (kind option) }
+pub(crate) fn is_flag(kind: Kind) -> bool
+    ensures { result ≡ is_flag kind }
 {
-    match option.kind() {
+    match kind {
         Kind::Flag => true,
         Kind::MessageNames
         | Kind::YesOrNo
@@ -73,7 +72,7 @@ fn lettered_form(option: Option<OptionName>, value: &str) -> WordForm<'_>
     match option {
         None => WordForm::Unknown,
         Some(option) if value.is_empty() => WordForm::Alone(option),
-        Some(option) if is_flag(option) => WordForm::Unknown,
+        Some(option) if is_flag(option.kind()) => WordForm::Unknown,
         Some(option) => WordForm::Attached(option, value),
     }
 }

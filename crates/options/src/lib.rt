@@ -2,6 +2,7 @@
 #![tactic(auto)]
 
 mod edits;
+mod file;
 mod form;
 mod line;
 mod one_word;
@@ -11,6 +12,7 @@ mod usage;
 mod words;
 
 pub use edits::{Edit, Edits};
+pub use file::read_toml;
 pub use line::Line;
 pub use one_word::read_one_word;
 pub use settings::Options;

@@ -88,7 +88,7 @@ fn read_alone<'w>(
     ensures refused { IfErr result (λ fault. is_memory fault ≡ false → said_by (word.now ∷ words.now) ≡ Err fault) }
     ensures shorter { IfOk result (λ rest. length rest.now ≤ length words.now) }
 {
-    if is_flag(option) {
+    if is_flag(option.kind()) {
         take_edit(alloc, said, option, "")?;
         return Ok(words);
     }
