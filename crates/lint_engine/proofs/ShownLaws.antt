@@ -10,7 +10,7 @@ use Rattle.options.specs.declared.line.Line.{Line}
 use Rattle.options.specs.declared.settings.Options.{Options}
 use Rattle.options.specs.declared.usage.UsageFault.{UsageFault}
 use Rattle.options.specs.Settings.{options_of}
-use Rattle.options.specs.Words.{line_of}
+use Rattle.options.specs.OneWord.{one_word_line}
 use Rattle.file_list.specs.declared.entry.Entry.{Entry}
 use Rattle.file_list.specs.declared.entry.Entry.TheVariants as entry
 use Rattle.file_list.specs.declared.entry.Listed.{Listed}
@@ -85,4 +85,4 @@ by_line (Err fault) whole one other e h = e ∙ sym h
 by_line (Ok line) whole one other e h = shown_only (options_of [] line.edits) 0 whole.list one other e h
 
 pub determined : (words : List (List ℕ)) (whole : Whole) → IsDetermined words whole
-determined words whole = by_line (line_of words) whole
+determined words whole = by_line (one_word_line words) whole

@@ -6,7 +6,7 @@ use Rattle.std.proofs.lemmas.Nat.{or_lt}
 use Rattle.lint_messages.specs.Codes.{bit, bit_of, category}
 use Rattle.lint_messages.specs.declared.message.Message.{Message}
 use Rattle.options.specs.declared.line.Line.{Line}
-use Rattle.options.specs.Words.{line_of}
+use Rattle.options.specs.OneWord.{one_word_line}
 use Rattle.lint_report.specs.Report.{bits}
 use Rattle.lint_engine.specs.Command.{IsRefused}
 
@@ -26,6 +26,6 @@ pub bits_small : (messages : List Message) → bits messages < 2 ^ 5
 bits_small messages = bits_from messages 0 (omega arith)
 
 -- words that are read never have the status 32
-pub accepted : (words : List (List ℕ)) (line : Line) (messages : List Message) (status : ℕ) → line_of words ≡ Ok line → status ≡ bits messages → IsRefused words status
+pub accepted : (words : List (List ℕ)) (line : Line) (messages : List Message) (status : ℕ) → one_word_line words ≡ Ok line → status ≡ bits messages → IsRefused words status
 accepted words line messages status read is =
     (λ e. absurd (omega (arith, bits_small messages)), λ bad. let never : false ≡ true = subst IsErr read bad in cc)

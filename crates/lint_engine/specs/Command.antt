@@ -10,7 +10,7 @@ use Rattle.options.specs.declared.line.Line.{Line}
 use Rattle.options.specs.declared.settings.Options.{Options}
 use Rattle.options.specs.declared.usage.UsageFault.{UsageFault}
 use Rattle.options.specs.Settings.{options_of}
-use Rattle.options.specs.Words.{line_of}
+use Rattle.options.specs.OneWord.{one_word_line}
 use Rattle.file_list.specs.declared.entry.Listed.{Listed}
 use Rattle.file_list.specs.Entries.{is_failed}
 use Rattle.file_list.specs.Gathered.{IsReadingOf}
@@ -24,25 +24,25 @@ use Rattle.lint_engine.specs.Output.{IsShownBy, output_by, error_text_by, status
 -- where they tell, and the status is the stated one.
 pub record IsRun (words : List (List ℕ)) (read : Whole) (out_before out_now err_before err_now : Option (List ℕ)) (status : ℕ) : Type 0 where
   pub messages : List Message
-  pub shown : IsShownBy (line_of words) read messages
-  pub printed : Appends out_before out_now (output_by (line_of words) read messages)
-  pub reported : Appends err_before err_now (error_text_by (line_of words))
-  pub status_is : status ≡ status_by (line_of words) messages
+  pub shown : IsShownBy (one_word_line words) read messages
+  pub printed : Appends out_before out_now (output_by (one_word_line words) read messages)
+  pub reported : Appends err_before err_now (error_text_by (one_word_line words))
+  pub status_is : status ≡ status_by (one_word_line words) messages
 
 -- there is one list of messages that are shown, so what is printed and the status are a function of words and reading
 abbrev pub IsDetermined : List (List ℕ) → Whole → Type 0
-IsDetermined words read = (one other : List Message) → IsShownBy (line_of words) read one → IsShownBy (line_of words) read other → one ≡ other
+IsDetermined words read = (one other : List Message) → IsShownBy (one_word_line words) read one → IsShownBy (one_word_line words) read other → one ≡ other
 
 -- the status is 32 exactly where the words are refused
 abbrev pub IsRefused : List (List ℕ) → ℕ → Type 0
-IsRefused words status = (status ≡ 32) ↔ IsErr (line_of words)
+IsRefused words status = (status ≡ 32) ↔ IsErr (one_word_line words)
 
 -- A sink failed: each sink holds a first part of its stated text, where it tells.
 pub record IsStopped (words : List (List ℕ)) (read : Whole) (out_before out_now err_before err_now : Option (List ℕ)) : Type 0 where
   pub messages : List Message
-  pub shown : IsShownBy (line_of words) read messages
-  pub printed : AppendsPrefix out_before out_now (output_by (line_of words) read messages)
-  pub reported : AppendsPrefix err_before err_now (error_text_by (line_of words))
+  pub shown : IsShownBy (one_word_line words) read messages
+  pub printed : AppendsPrefix out_before out_now (output_by (one_word_line words) read messages)
+  pub reported : AppendsPrefix err_before err_now (error_text_by (one_word_line words))
 
 -- Memory ran out: nothing was written.
 pub record IsUnwritten (out_before out_now err_before err_now : Option (List ℕ)) : Type 0 where

@@ -6,7 +6,7 @@ ghost use Rattle.lint_outside.specs.Causes.{Rose, RoseBy};
 ghost use Rattle.lint_outside.specs.Sinks.{Appends, AppendsPrefix};
 ghost use Rattle.lint_report.specs.Usage.{usage_line};
 ghost use Rattle.options.specs.Usage.{is_memory};
-ghost use Rattle.options.specs.Words.{line_of};
+ghost use Rattle.options.specs.OneWord.{one_word_line};
 ghost use Rattle.file_list.specs.Entries.{is_failed, IsOnePath};
 ghost use Rattle.file_list.specs.Gathered.{IsReadingOf};
 ghost use Rattle.lint_engine.specs.Answers.{OnRan, OnSinkFault, OnMemory, OnWritten};
@@ -17,7 +17,7 @@ use crate::writing::write_lines;
 use file_list::{Reading, gather};
 use lint_base::{Files, Gate, Memory, Sink, SinkFault, Text, Texts};
 use lint_report::{Answer, OptionsRead, Outcome, Whole, status, text, usage_text};
-use options::{Edits, Line, Options, UsageFault, read_words};
+use options::{Edits, Line, Options, UsageFault, read_one_word};
 use std::alloc::Global;
 use std::thread::Threads;
 
@@ -179,13 +179,13 @@ pub fn lint_command<R: Threads + Sync, F: Files, O: Sink, E: Sink, G: Gate>(
     ensures unwritten { OnMemory result.answer (IsUnwritten (O.written out.old) (O.written out.new) (E.written err.old) (E.written err.new)) }
 
     // What was read is what the files hold, but for the questions that failed in this call.
-    ensures read { ForSome (F.held files.old) (λ tree. OnWritten result.answer (IsReadFrom (line_of words.now) tree (F.failed files.old) (F.failed files.new) (F.faults files.old) (F.faults files.new) result.read)) }
+    ensures read { ForSome (F.held files.old) (λ tree. OnWritten result.answer (IsReadFrom (one_word_line words.now) tree (F.failed files.old) (F.failed files.new) (F.faults files.old) (F.faults files.new) result.read)) }
     ensures failed { HasReadCauses (F.faults files.old) (F.faults files.new) result.read }
 
     // So where the files' count does not rise, nothing that was read has failed.
     ensures none_failed { ¬ (Rose (F.faults files.old) (F.faults files.new)) → count_by is_failed result.read.list ≡ 0 }
 {
-    let fault = match read_words(alloc, words) {
+    let fault = match read_one_word(alloc, words) {
         Ok(line) => return lint_line(rt, alloc, &line, files, out, gate),
         Err(fault) => fault,
     };

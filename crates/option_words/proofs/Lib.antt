@@ -1,1 +1,3 @@
+pub mod BlankLaws
 pub mod NumberLaws
+pub mod PartLaws

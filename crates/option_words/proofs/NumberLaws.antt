@@ -1,5 +1,5 @@
 -- Numbers that are counted up to a bound.
-use Rattle.std.proofs.Common.{◌≡◌, ℕ, ◌+◌, ◌-◌, ◌*◌, ◌<◌, ◌≤◌, List, Bool, take, get_or, length, min, arith, ap, sym, ◌∙◌, ◌&&◌}
+use Rattle.std.proofs.Common.{◌≡◌, ℕ, ◌+◌, ◌-◌, ◌*◌, ◌<◌, ◌≤◌, List, [], ◌∷◌, take, get_or, length, min, arith, ap, sym, ◌∙◌, ◌&&◌}
 use Rattle.std.proofs.lemmas.Bool.Decides.{nat_tests}
 use Rattle.std.specs.Prelude.{nat_le}
 use Rattle.std.proofs.lemmas.List.Sums.{fold_more}
@@ -18,3 +18,10 @@ number_more digits i number below is =
 -- a test below the bound
 pub bounded_between : (n low high : ℕ) → high < 10000000 → (nat_le low (min n 10000000) && nat_le (min n 10000000) high) ≡ (nat_le low n && nat_le n high)
 bounded_between n low high below = grind (arith, nat_tests)
+
+-- at most two bytes write a small number
+pub short_number : (digits : List ℕ) → length digits ≤ 2 → ((k : ℕ) → get_or digits k 0 < 256) → number_of digits < 10000000
+short_number [] short bytes = omega arith
+short_number (a ∷ []) short bytes = omega (arith, bytes 0)
+short_number (a ∷ b ∷ []) short bytes = omega (arith, bytes 0, bytes 1)
+short_number (a ∷ b ∷ c ∷ cs) short bytes = absurd (omega arith)

@@ -1,10 +1,10 @@
 -- The options of the command line: their long names, and what their values may be.
-use Rattle.std.specs.Prelude.{ℕ, List, Bool, Option, codes, find}
+use Rattle.std.specs.Prelude.{ℕ, List, Bool, Option, Some, None, codes, find, if◌then◌else◌}
 use Rattle.std.specs.Str.{bytes_eq}
 use Rattle.option_words.specs.declared.option_name.OptionName.{OptionName}
 use Rattle.option_words.specs.declared.option_name.OptionName.TheVariants.{Disable, Enable, ErrorsOnly, Jobs, Score, Rcfile, Ignore, Recursive, FailUnder, FailOn, ExitZero, IgnoredClasses, AdditionalBuiltins, LimitInferenceResults, MaxLineLength, MaxModuleLines, MaxArgs, MaxLocals, MaxReturns, MaxBranches, MaxStatements, MaxAttributes, MaxPublicMethods, MinPublicMethods, MaxParents}
 use Rattle.option_words.specs.declared.option_name.Kind.{Kind}
-use Rattle.option_words.specs.declared.option_name.Kind.TheVariants.{Flag, MessageNames, YesOrNo, Number, Hundredths, Free}
+use Rattle.option_words.specs.declared.option_name.Kind.TheVariants.{Flag, MessageNames, YesOrNo, Number, Hundredths, Texts, Path}
 use Rattle.option_words.specs.declared.option_name.TheConstants.{ALL_OPTIONS}
 
 -- the long name without its dashes
@@ -42,14 +42,14 @@ kind Enable = MessageNames
 kind ErrorsOnly = Flag
 kind Jobs = Number 0 64
 kind Score = YesOrNo
-kind Rcfile = Free
-kind Ignore = Free
+kind Rcfile = Path
+kind Ignore = Texts
 kind Recursive = YesOrNo
 kind FailUnder = Hundredths
 kind FailOn = MessageNames
 kind ExitZero = Flag
-kind IgnoredClasses = Free
-kind AdditionalBuiltins = Free
+kind IgnoredClasses = Texts
+kind AdditionalBuiltins = Texts
 kind LimitInferenceResults = Number 1 1000
 kind MaxLineLength = Number 0 1000000
 kind MaxModuleLines = Number 0 1000000
@@ -70,3 +70,12 @@ is_named name option = bytes_eq name (long_name option)
 -- the option of a long name
 abbrev pub named_option : List ℕ → Option OptionName
 named_option name = find (is_named name) ALL_OPTIONS
+
+-- the option of a short letter
+abbrev pub lettered : List ℕ → Option OptionName
+lettered letter =
+    if bytes_eq letter (codes "d") then Some Disable
+    else (if bytes_eq letter (codes "e") then Some Enable
+    else (if bytes_eq letter (codes "E") then Some ErrorsOnly
+    else (if bytes_eq letter (codes "j") then Some Jobs
+    else (if bytes_eq letter (codes "s") then Some Score else None))))

@@ -1,6 +1,6 @@
 // The options: the one table of their long names and of what their values may be.
 ghost use Rattle.std.specs.Prelude.{◌≡◌};
-ghost use Rattle.option_words.specs.OptionNames.{is_named, kind, long_name, named_option};
+ghost use Rattle.option_words.specs.OptionNames.{is_named, kind, lettered, long_name, named_option};
 
 /// An option.
 #[derive(Clone, Copy, Debug, PartialEq, Eq)]
@@ -44,8 +44,10 @@ pub enum Kind {
     Number { low: u64, high: u64 },
     /// A number from 0 to 10 of at most two decimals.
     Hundredths,
-    /// Any text.
-    Free,
+    /// A list of texts.
+    Texts,
+    /// The path of a file.
+    Path,
 }
 
 /// All options, in the order of the table.
@@ -119,10 +121,10 @@ impl OptionName {
             OptionName::ErrorsOnly | OptionName::ExitZero => Kind::Flag,
             OptionName::Jobs => Kind::Number { low: 0, high: 64 },
             OptionName::Score | OptionName::Recursive => Kind::YesOrNo,
-            OptionName::Rcfile
-            | OptionName::Ignore
-            | OptionName::IgnoredClasses
-            | OptionName::AdditionalBuiltins => Kind::Free,
+            OptionName::Rcfile => Kind::Path,
+            OptionName::Ignore | OptionName::IgnoredClasses | OptionName::AdditionalBuiltins => {
+                Kind::Texts
+            }
             OptionName::FailUnder => Kind::Hundredths,
             OptionName::LimitInferenceResults => Kind::Number { low: 1, high: 1000 },
             OptionName::MaxLineLength
@@ -150,6 +152,20 @@ impl OptionName {
             .iter()
             .copied()
             .find(|option| is_named(name, *option))
+    }
+
+    /// The option of a short letter, which a word gives behind one dash.
+    pub fn lettered(letter: &str) -> Option<OptionName>
+        ensures { result ≡ lettered letter.now }
+    {
+        match letter {
+            "d" => Some(OptionName::Disable),
+            "e" => Some(OptionName::Enable),
+            "E" => Some(OptionName::ErrorsOnly),
+            "j" => Some(OptionName::Jobs),
+            "s" => Some(OptionName::Score),
+            _ => None,
+        }
     }
 }
 

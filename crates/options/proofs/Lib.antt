@@ -1,0 +1,4 @@
+pub mod EditLaws
+pub mod FileLaws
+pub mod LineLaws
+pub mod WordLaws

@@ -1,3 +1,12 @@
+pub mod Behind
+pub mod BehindEdits
+pub mod Edits
+pub mod File
+pub mod Lines
+pub mod OneWord
+pub mod Options
+pub mod Seen
 pub mod Settings
+pub mod Switches
 pub mod Usage
 pub mod Words

@@ -2,11 +2,22 @@
 #![tactic(auto)]
 
 mod edits;
+mod file;
+mod form;
 mod line;
+mod one_word;
 mod settings;
+mod switches;
 mod usage;
+mod words;
 
 pub use edits::{Edit, Edits};
-pub use line::{Line, read_words};
+pub use file::read_toml;
+pub use line::Line;
+pub use one_word::read_one_word;
 pub use settings::Options;
 pub use usage::UsageFault;
+pub use words::read_words;
+
+#[cfg(test)]
+mod tests;
