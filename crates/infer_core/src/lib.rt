@@ -2,9 +2,11 @@
 #![tactic(auto)]
 
 mod frozen;
+mod overlay;
 mod solver;
 
 pub use frozen::Frozen;
 pub use infer_equations::{Equations, Steps, View, least_solves};
 pub use infer_plain::Plain;
+pub use overlay::Overlay;
 pub use solver::Solver;
