@@ -1,9 +1,10 @@
 -- From what the worklist leaves to what a demand adds.
-use Rattle.std.proofs.Common.{◌≡◌, ℕ, ◌+◌, ◌≤◌, Bool, true, false, cond, List, [], ◌∷◌, refl, sym, ◌∙◌, ap, subst, arith}
-use Rattle.std.specs.Prelude.{Result, Ok, Err, OnOk, OnErr, IfOk, Option, Some, None, IsSome}
+use Rattle.std.proofs.Common.{◌≡◌, ℕ, List, [], ◌∷◌, refl, sym, ◌∙◌, ap, subst, Bor}
+use Rattle.std.specs.Prelude.{Result, Ok, Err, OnOk, OnErr, Option, Some, None, IsSome, IfSome, option_copied}
 use Rattle.std.specs.List.{Contains}
 use Rattle.std.specs.Ordering.{nat_cmp}
-use Rattle.std.specs.FinMap.{get, empty, get-empty}
+use Rattle.std.specs.Cmp.{nat_cmp_total}
+use Rattle.std.specs.FinMap.{get, empty, get-empty, same_map, nat_cmp-IsAntisymmetric}
 use Rattle.infer_sets.specs.Sets.{Set}
 use Rattle.infer_equations.specs.Assignment.{Assignment, Map, either, overlaid}
 use Rattle.infer_equations.specs.Least.{least}
@@ -11,8 +12,9 @@ use Rattle.infer_equations.proofs.Overlay.{get-overlaid}
 use Rattle.infer_reached.specs.Tables.{found}
 use Rattle.infer_reached.specs.InProgress.{HasSet}
 use Rattle.infer_reached.specs.Extension.{AllLeast}
-use Rattle.infer_lazy.specs.Reach.{Lacking, IsCheap, IsListed}
+use Rattle.infer_lazy.specs.Reach.{Lacking, IsCheap, IsListed, IsSupported, AreSupported}
 use Rattle.infer_core.specs.Right.{IsRight}
+use Rattle.infer_core.specs.Solving.{Solving, AreApart, IsSolving}
 use Rattle.infer_core.specs.Demand.{Gained, Adds, IsDemanded}
 
 some_none : (o : Option Set) (s : Set) → o ≡ None → o ≡ Some s → ⊥
@@ -21,6 +23,16 @@ some_none o s e f = cc
 is_not : (o : Option Set) → o ≡ None → IsSome o → ⊥
 is_not None e h = absurd (let f = h in cc)
 is_not (Some s) e h = absurd (let f = e in cc)
+
+first_none : (o p : Option Set) → either o p ≡ None → o ≡ None
+first_none None p e = refl
+first_none (Some s) p e = absurd (let f = e in cc)
+
+either_swap : (o p : Option Set) → (IsSome p → o ≡ None) → either o p ≡ either p o
+either_swap None None h = refl
+either_swap None (Some y) h = refl
+either_swap (Some x) None h = refl
+either_swap (Some x) (Some y) h = absurd (let f = h refl in cc)
 
 second_none : (o p : Option Set) → either o p ≡ None → p ≡ None
 second_none None p e = e
@@ -83,16 +95,21 @@ module _ (count limit : ℕ) (right : ℕ → Assignment → Set) (reads : ℕ �
     work_apart : (v : ℕ) → IsSome (get work v) → get own v ≡ None
     work_apart v has = run_apart v (h.stored v has)
 
+    swapped : overlaid own work ≡ overlaid work own
+    swapped = same_map nat_cmp_total nat_cmp-IsAntisymmetric (overlaid own work) (overlaid work own) (λ q.
+        get-overlaid own work q ∙ either_swap (get own q) (get work q) (work_apart q) ∙ sym (get-overlaid work own q))
+
+    -- no variable stands in both, so either may come first
+    pub ok_swapped : {T F : Type 0} (r : Result T F) (new : Map) → OnOk r (new ≡ overlaid own work) → OnOk r (new ≡ overlaid work own)
+    ok_swapped (Ok x) new e = e ∙ swapped
+    ok_swapped (Err x) new e = tt
+
     found_work : (v : ℕ) (s : Set) → get work v ≡ Some s → found (b, work) v ≡ Some s
     unfolding found
     found_work v s e = either_second (get b v) (get work v) s (h.lacking v (h.stored v (some_is (get work v) s e))).1 e
 
     right_kept : AllLeast count limit right (b, work) → IsRight count limit right own → IsRight count limit right (overlaid work own)
     right_kept all r = record { at = λ v s e. either_right (get work v) (get own v) (low v) s (λ x f. all.at v x (found_work v x f)) (r.at v) (sym (get-overlaid work own v) ∙ e) }
-
-    pub right_after : {T F : Type 0} (r : Result T F) (new : Map) → AllLeast count limit right (b, work) → IsRight count limit right own → OnOk r (new ≡ overlaid work own) → OnErr r (new ≡ own) → IsRight count limit right new
-    right_after (Ok x) new all r ok err = subst (IsRight count limit right) (sym ok) (right_kept all r)
-    right_after (Err x) new all r ok err = subst (IsRight count limit right) (sym err) r
 
     gets : (new : Map) → new ≡ overlaid work own → (v : ℕ) → get new v ≡ either (get work v) (get own v)
     gets new e v = ap (λ m. get m v) e ∙ get-overlaid work own v
@@ -109,6 +126,59 @@ module _ (count limit : ℕ) (right : ℕ → Assignment → Set) (reads : ℕ �
     start_has new e has none =
         let in_work : IsSome (get work start) = some_from (get b start) (get work start) none (some_is (either (get b start) (get work start)) has.0 has.1) in
         subst IsSome (sym (get-overlaid base new start)) (either_some (get base start) (get new start) (subst IsSome (sym (gets new e start)) (either_first (get work start) (get own start) in_work)))
+
+    apart_at : AreApart base own → (v : ℕ) (x y : Option Set) → get work v ≡ x → get own v ≡ y → IsSome (either x y) → get base v ≡ None
+    apart_at a v None y e f has = a.at v (subst IsSome (sym f) has)
+    apart_at a v (Some s) y e f has = first_none (get base v) (get own v) (sym (get-overlaid base own v) ∙ ap (λ m. get m v) (sym be) ∙ (h.lacking v (h.stored v (some_is (get work v) s e))).1)
+
+    -- what has a set while the variables are in progress has one afterwards
+    has_by : (w : ℕ) (s : Set) (x y z : Option Set) → get base w ≡ x → get own w ≡ y → get work w ≡ z → found (b, work) w ≡ Some s → (r : Option Set) → r ≡ either z y → either x r ≡ Some s
+    unfolding found
+    has_by w s x y z e f g has r re =
+        let is : either (either x y) z ≡ Some s = (λ i. either (either (sym e i) (sym f i)) (sym g i)) ∙ ap (λ m. either m (get work w)) (sym (ap (λ m. get m w) be ∙ get-overlaid base own w)) ∙ has in
+        ap (λ o. either x o) re ∙ by_parts x y z (λ some. sym f ∙ work_apart w (subst IsSome (sym g) some)) ∙ is
+      where
+        by_parts : (x y z : Option Set) → (IsSome z → y ≡ None) → either x (either z y) ≡ either (either x y) z
+        by_parts (Some s) y z apart = refl
+        by_parts None y None apart = either_none_right y
+          where
+            either_none_right : (y : Option Set) → y ≡ either y None
+            either_none_right None = refl
+            either_none_right (Some s) = refl
+        by_parts None y (Some t) apart = ap (λ o. either o (Some t)) (sym (apart refl))
+
+    module _ (new : Map) (e : new ≡ overlaid work own) where
+      has_after : (w : ℕ) → HasSet (b, work) w → HasSet (base, new) w
+      unfolding found
+      has_after w has = (has.0, has_by w has.0 (get base w) (get own w) (get work w) refl refl refl has.1 (get new w) (gets new e w))
+
+      has_still : (w : ℕ) → HasSet (base, own) w → HasSet (base, new) w
+      unfolding found
+      has_still w has = (has.0, still (get base w) (get own w) (get new w) has.1 (λ s f. keeps_by new e w s (get work w) refl f))
+        where
+          still : (x y z : Option Set) → either x y ≡ Some has.0 → ((s : Set) → y ≡ Some s → z ≡ Some s) → either x z ≡ Some has.0
+          still None y z f k = k has.0 f
+          still (Some t) y z f k = f
+
+      wider : (P Q : ℕ → Type 0) (right : ℕ → Assignment → Set) (v : ℕ) → ((w : ℕ) → P w → Q w) → IsSupported low right P v → IsSupported low right Q v
+      wider P Q right v f s = record { rests = s.rests; there = λ w c. f w (s.there w c); again = s.again }
+
+      rests_at : AreSupported low right b work → AreSupported low right base own → (v : ℕ) (x y : Option Set) → get work v ≡ x → get own v ≡ y → IsSome (either x y) → IsSupported low right (λ w. HasSet (base, new) w) v
+      rests_at s t v None y f g has = wider _ _ right v has_still (t.at v (subst IsSome (sym g) has))
+      rests_at s t v (Some x) y f g has = wider _ _ right v has_after (s.at v (some_is (get work v) x f))
+
+      solving_kept : AllLeast count limit right (b, work) → AreSupported low right b work → IsSolving count limit right base own → IsSolving count limit right base new
+      solving_kept all s q = record {
+        base_right = q.base_right;
+        solved_right = subst (IsRight count limit right) (sym e) (right_kept all q.solved_right);
+        apart = record { at = λ v has. apart_at q.apart v (get work v) (get own v) refl refl (subst IsSome (gets new e v) has) };
+        rests = record { at = λ v has. rests_at s q.rests v (get work v) (get own v) refl refl (subst IsSome (gets new e v) has) };
+      }
+
+    pub solving_after : {T F : Type 0} (r : Result T F) (new : Map) → AllLeast count limit right (b, work) → AreSupported low right b work → IsSolving count limit right base own → OnOk r (new ≡ overlaid own work) → OnErr r (new ≡ own)
+        → IsSolving count limit right base new
+    solving_after (Ok x) new all s q ok err = solving_kept new (ok ∙ swapped) all s q
+    solving_after (Err x) new all s q ok err = subst (λ m. IsSolving count limit right base m) (sym err) q
 
     pub adds_after : (new : Map) → new ≡ overlaid work own → HasSet (b, work) start → get b start ≡ None → Adds low reads base own new start
     adds_after new e has none = record {
@@ -128,16 +198,21 @@ module _ (count limit : ℕ) (right : ℕ → Assignment → Set) (reads : ℕ �
         let wanted = λ (v : ℕ) (has : IsSome (get work v)). subst (λ m. Lacking low reads m (start ∷ []) v) be (h.lacking v (h.stored v has)) in
         c vars pairs (λ v has. vs v (wanted v has)) (λ v w hv hw d. ps v w (wanted v hv) (wanted w hw) d)
 
-    pub demanded_after : {T F : Type 0} (r : Result T F) (new : Map) (before after : ℕ) → get (overlaid base own) start ≡ None → HasSet (b, work) start → OnOk r (new ≡ overlaid work own) → OnErr r (new ≡ own)
-        → IsCheap limit low reads (λ v. IsSome (get work v)) before after → IsDemanded limit low reads base own new start before after r
-    demanded_after (Ok x) new before after missing has ok err c = record {
-      adds = adds_after new ok has (ap (λ m. get m start) be ∙ missing);
+    pub demanded_after : {E T F : Type 0} (e : E) (r : Result T F) (new : Map) (before after : ℕ) → get (overlaid base own) start ≡ None → HasSet (b, work) start → OnOk r (new ≡ overlaid own work) → OnErr r (new ≡ own)
+        → IsCheap limit low reads (λ v. IsSome (get work v)) before after
+        → IsDemanded limit low reads (record { equations = e; base = base; solved = own }) (record { equations = e; base = base; solved = new }) start before after r
+    demanded_after e (Ok x) new before after missing has ok err c = record {
+      equations = refl;
+      base = refl;
+      adds = adds_after new (ok ∙ swapped) has (ap (λ m. get m start) be ∙ missing);
       same = tt;
-      cheap = cheap_after new ok before after c;
+      cheap = cheap_after new (ok ∙ swapped) before after c;
       cheap_err = tt;
       none_again = λ h. absurd (is_not (get (overlaid base own) start) missing h);
     }
-    demanded_after (Err x) new before after missing has ok err c = record {
+    demanded_after e (Err x) new before after missing has ok err c = record {
+      equations = refl;
+      base = refl;
       adds = tt;
       same = err;
       cheap = tt;
@@ -146,8 +221,11 @@ module _ (count limit : ℕ) (right : ℕ → Assignment → Set) (reads : ℕ �
     }
 
   -- the worklist was refused
-  pub demanded_err : {T F : Type 0} (x : F) (base own b : Map) (start before after : ℕ) → b ≡ overlaid base own → get (overlaid base own) start ≡ None → IsCheap limit low reads (Lacking low reads b (start ∷ [])) before after → IsDemanded {T = T} limit low reads base own own start before after (Err x)
-  demanded_err x base own b start before after be missing c = record {
+  pub demanded_err : {E T F : Type 0} (e : E) (x : F) (base own b : Map) (start before after : ℕ) → b ≡ overlaid base own → get (overlaid base own) start ≡ None → IsCheap limit low reads (Lacking low reads b (start ∷ [])) before after
+      → IsDemanded {T = T} limit low reads (record { equations = e; base = base; solved = own }) (record { equations = e; base = base; solved = own }) start before after (Err x)
+  demanded_err e x base own b start before after be missing c = record {
+    equations = refl;
+    base = refl;
     adds = tt;
     same = refl;
     cheap = tt;
@@ -156,9 +234,14 @@ module _ (count limit : ℕ) (right : ℕ → Assignment → Set) (reads : ℕ �
   }
 
 -- an answer of another type says the same
-pub demanded_ok : {T U F : Type 0} (x : T) (y : U) (limit : ℕ) (solution : Assignment) (reads : ℕ → Assignment → List ℕ) (base own new : Map) (start before after : ℕ) → IsDemanded {F = F} limit solution reads base own new start before after (Ok x) → IsDemanded {F = F} limit solution reads base own new start before after (Ok y)
-demanded_ok x y limit solution reads base own new start before after d = record { adds = d.adds; same = tt; cheap = d.cheap; cheap_err = tt; none_again = d.none_again }
+pub demanded_ok : {E T U F : Type 0} (x : T) (y : U) (limit : ℕ) (solution : Assignment) (reads : ℕ → Assignment → List ℕ) (old new : Solving E) (start before after : ℕ) → IsDemanded {F = F} limit solution reads old new start before after (Ok x) → IsDemanded {F = F} limit solution reads old new start before after (Ok y)
+demanded_ok x y limit solution reads old new start before after d =
+    record { equations = d.equations; base = d.base; adds = d.adds; same = tt; cheap = d.cheap; cheap_err = tt; none_again = d.none_again }
 
 -- what two right tables have for a variable is the least solution's
 pub known_least : (count limit : ℕ) (right : ℕ → Assignment → Set) (base own : Map) (v : ℕ) (s : Set) → IsRight count limit right base → IsRight count limit right own → Some s ≡ get (overlaid base own) v → s ≡ least count limit right v
 known_least count limit right base own v s r q e = either_right (get base v) (get own v) (least count limit right v) s (r.at v) (q.at v) (sym (get-overlaid base own v) ∙ sym e)
+
+pub known_if : (count limit : ℕ) (right : ℕ → Assignment → Set) (base own : Map) (v : ℕ) (r : Option (Bor Set)) → IsRight count limit right base → IsRight count limit right own → option_copied r ≡ get (overlaid base own) v → IfSome r (λ s. s.now ≡ least count limit right v)
+known_if count limit right base own v None h k e = tt
+known_if count limit right base own v (Some s) h k e = known_least count limit right base own v s.now h k e

@@ -1,2 +1,3 @@
 pub mod RightTables
+pub mod Merging
 pub mod Demands

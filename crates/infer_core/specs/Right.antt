@@ -1,8 +1,6 @@
 -- Tables that are right for equations: each of their entries is the least solution's.
-use Rattle.std.proofs.Common.{ap, ◌∙◌}
-use Rattle.std.specs.Prelude.{◌≡◌, ℕ, Some, None, Option, refl}
+use Rattle.std.specs.Prelude.{◌≡◌, ℕ, Some, refl}
 use Rattle.std.specs.FinMap as map
-use Rattle.std.specs.Ordering.{nat_cmp}
 use Rattle.std.specs.Coded.{Coded, code_by, coded×, coded_ℕ}
 use base.Stored.{Coded-set}
 use Rattle.infer_sets.specs.Sets.{Set, set_code}

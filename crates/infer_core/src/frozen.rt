@@ -1,18 +1,25 @@
 // Solved sets that several solvers share.
-ghost use Rattle.std.specs.Prelude.{◌≡◌, ℕ, option_copied};
+ghost use Rattle.std.specs.Prelude.{◌≡◌, ℕ, not, length, IfOk, OnOk, OnErr, option_copied};
+ghost use Rattle.std.specs.List.{filter};
 ghost use Rattle.std.specs.FinMap as map;
 ghost use Rattle.infer_sets.specs.Sets.{Set};
 ghost use Rattle.infer_core.specs.Right.{IsRight};
+ghost use Rattle.infer_core.specs.Merge.{merged};
 
+use crate::overlay::Overlay;
 use infer_equations::Table;
+use infer_lazy::keep_all;
 use infer_sets::AbsSet;
+use lint_values::Memory;
 use std::alloc::Global;
 use std::marker::Model;
 
-/// A table of solved sets, which solvers stand on and none changes. Contracts see the finite map from variables to sets,
-/// and how many variables were solved again.
+/// A table of solved sets, on which solvers stand, and which grows by `merge` alone. Contracts see the finite map from
+/// variables to sets, and how many variables were solved again. It is right for equations where each of its sets is that
+/// of their least solution.
 #[derive(Debug, Drop)]
 pub struct Frozen {
+    alloc: Global,
     table: Table,
     again: u64,
 }
@@ -34,9 +41,26 @@ impl Frozen {
         ensures right { (count limit : ℕ) (right : ℕ → (ℕ → Set) → Set) → IsRight count limit right result.sets }
     {
         Frozen {
+            alloc,
             table: Table::new(alloc),
             again: 0,
         }
+    }
+
+    /// Takes over what a solver solved. Where both have a variable, the old set stays, and it counts as solved again.
+    /// Where memory runs out the table is as before, and the overlay is given up.
+    pub fn merge(&mut self, overlay: Overlay) -> Result<(), Memory>
+        ensures ok { OnOk result (self.new ≡ merged self.old overlay) }
+        ensures err { OnErr result (self.new ≡ self.old) }
+        ensures right { (count limit : ℕ) (right : ℕ → (ℕ → Set) → Set) → IsRight count limit right self.old.sets → IsRight count limit right overlay → IsRight count limit right self.new.sets }
+    {
+        let mut overlay = overlay.into_table();
+        let variables = overlay.variables(self.alloc)?;
+        let missing = missing_of(self.alloc, &self.table, &variables)?;
+        let shared = (variables.len() - missing.len()) as u64;
+        keep_all(&mut self.table, &mut overlay, &missing)?;
+        self.again = self.again.saturating_add(shared);
+        Ok(())
     }
 
     /// The variable's set, if the table has it.
@@ -46,9 +70,35 @@ impl Frozen {
         self.table.find(var)
     }
 
+    /// How many variables the table has.
+    pub fn count(&self) -> u64
+        ensures { result ≡ map.len self.now.sets }
+    {
+        self.table.count()
+    }
+
+    /// How many variables were solved again: each merge adds the number of those that the table had already, until the
+    /// count stands still at 2^64 - 1.
+    pub fn again(&self) -> u64
+        ensures { result ≡ self.now.again }
+    {
+        self.again
+    }
+
     pub(crate) fn table(&self) -> &Table
         ensures { result.now ≡ self.now.sets }
     {
         &self.table
     }
+}
+
+// Those of the variables that the table lacks.
+fn missing_of(alloc: Global, table: &Table, variables: &[u64]) -> Result<Vec<u64>, Memory>
+    ensures { IfOk result (λ v. v.items ≡ filter (λ q. not (map.contains_key table.now q)) variables.now) }
+{
+    Ok(variables
+        .iter()
+        .copied()
+        .filter(|var| table.find(*var).is_none())
+        .collect(alloc)?)
 }

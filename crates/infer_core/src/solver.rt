@@ -1,37 +1,50 @@
 // A solver that keeps what it solved.
-ghost use Rattle.std.specs.Prelude.{◌≡◌, ℕ, ◌<◌, IfOk, OnOk, OnErr, None, IsSome, option_copied};
+ghost use Rattle.std.specs.Prelude.{◌≡◌, ℕ, ◌<◌, IfOk, IfSome, None, option_copied};
 ghost use Rattle.std.specs.FinMap as map;
 ghost use Rattle.infer_equations.specs.Least.{least};
 ghost use Rattle.infer_equations.specs.Assignment.{overlaid};
-ghost use Rattle.infer_core.specs.Right.{IsRight, IsRight-prop};
+ghost use Rattle.infer_lazy.specs.Reach.{AreSupported};
+ghost use Rattle.infer_core.specs.Right.{IsRight};
+ghost use Rattle.infer_core.specs.Solving.{AreApart};
 ghost use Rattle.infer_core.specs.Demand.{IsDemanded};
 
 use crate::frozen::Frozen;
+use crate::overlay::Overlay;
 use infer_equations::{Equations, Solved, Steps, Table};
 use infer_lazy::{keep_all, work_through};
 use infer_sets::AbsSet;
 use lint_values::Memory;
 use std::alloc::Global;
+use std::marker::Model;
 use std::sync::ledger::Ledger;
 
-/// A solver of equations, over a frozen table that is right for them. It keeps the sets that it solved in a table of its own.
+/// A solver of equations, over a frozen table that is right for them. It keeps the sets that it solved in a table of its
+/// own. Contracts see its equations, the sets of the frozen table, and those that it solved.
 #[derive(Drop)]
 pub struct Solver<'a, E: Equations> {
     alloc: Global,
     eqs: &'a E,
     base: &'a Frozen,
     own: Table,
-    ghost base_right: { IsRight (E.count_of eqs.now) (E.limit_of eqs.now) (E.right eqs.now) base.now.sets } by { IsRight-prop _ _ _ _ },
-    ghost own_right: { IsRight (E.count_of eqs.now) (E.limit_of eqs.now) (E.right eqs.now) own } by { IsRight-prop _ _ _ _ },
+}
+
+impl<'a, E: Equations> Model for Solver<'a, E> {
+    ghost use Rattle.infer_core.specs.Solving.{Solving, solving_code, IsSolving};
+
+    ghost Value = { Solving E };
+
+    ghost coded = { solving_code E.code };
+
+    ghost view = { λ s. record { equations = s.eqs.now; base = s.base.now.sets; solved = s.own } };
+
+    ghost invariant = { λ s. IsSolving (E.count_of s.eqs.now) (E.limit_of s.eqs.now) (E.right s.eqs.now) s.base.now.sets s.own };
 }
 
 impl<'a, E: Equations> Solver<'a, E> {
     /// A solver that has solved nothing yet.
     pub fn new(alloc: Global, eqs: &'a E, base: &'a Frozen) -> Solver<'a, E>
         requires { IsRight (E.count_of eqs.now) (E.limit_of eqs.now) (E.right eqs.now) base.now.sets }
-        ensures equations { result.eqs.now ≡ eqs.now }
-        ensures base { result.base.now ≡ base.now }
-        ensures none { result.own ≡ map.empty }
+        ensures { result ≡ record { equations = eqs.now; base = base.now.sets; solved = map.empty } }
     {
         Solver {
             alloc,
@@ -41,19 +54,30 @@ impl<'a, E: Equations> Solver<'a, E> {
         }
     }
 
+    /// Hands out what the solver solved, whole. Each of its sets is that of the least solution, its variables are none of
+    /// the frozen table, and each rests on some variables of the two: its right side is its set wherever an assignment
+    /// agrees with the least solution on these.
+    pub fn finish(self) -> Result<Overlay, Memory>
+        ensures whole { IfOk result (λ o. o ≡ self.entry.solved) }
+        ensures right { IfOk result (λ o. IsRight (E.count_of self.entry.equations) (E.limit_of self.entry.equations) (E.right self.entry.equations) o) }
+        ensures apart { IfOk result (λ o. AreApart self.entry.base o) }
+        ensures rests { IfOk result (λ o. AreSupported (least (E.count_of self.entry.equations) (E.limit_of self.entry.equations) (E.right self.entry.equations)) (E.right self.entry.equations) self.entry.base o) }
+    {
+        Ok(Overlay::new(self.own))
+    }
+
     fn known(&self, var: u64) -> Option<&AbsSet>
-        ensures { option_copied result ≡ map.get (overlaid self.now.base.now.sets self.now.own) var }
+        ensures found { option_copied result ≡ map.get (overlaid self.now.base self.now.solved) var }
+        ensures least { IfSome result (λ s. s.now ≡ least (E.count_of self.now.equations) (E.limit_of self.now.equations) (E.right self.now.equations) var) }
     {
         Solved::new(self.base.table(), &self.own).find(var)
     }
 
     // Solves a variable that no table has.
     fn solve<L: Ledger>(&mut self, var: u64, steps: &mut Steps<L>) -> Result<(), Memory>
-        requires in_range { var < E.count_of self.old.eqs.now }
-        requires missing { map.get (overlaid self.old.base.now.sets self.old.own) var ≡ None }
-        ensures equations { self.new.eqs ≡ self.old.eqs }
-        ensures base { self.new.base ≡ self.old.base }
-        ensures demanded { IsDemanded (E.limit_of self.old.eqs.now) (least (E.count_of self.old.eqs.now) (E.limit_of self.old.eqs.now) (E.right self.old.eqs.now)) (E.reads self.old.eqs.now) self.old.base.now.sets self.old.own self.new.own var steps.old steps.new result }
+        requires in_range { var < E.count_of self.old.equations }
+        requires missing { map.get (overlaid self.old.base self.old.solved) var ≡ None }
+        ensures { IsDemanded (E.limit_of self.old.equations) (least (E.count_of self.old.equations) (E.limit_of self.old.equations) (E.right self.old.equations)) (E.reads self.old.equations) self.old self.new var steps.old steps.new result }
     {
         let mut work = Table::new(self.alloc);
         let base = Solved::new(self.base.table(), &self.own);
@@ -64,10 +88,8 @@ impl<'a, E: Equations> Solver<'a, E> {
     }
 
     fn settle<L: Ledger>(&mut self, var: u64, steps: &mut Steps<L>) -> Result<(), Memory>
-        requires { var < E.count_of self.old.eqs.now }
-        ensures equations { self.new.eqs ≡ self.old.eqs }
-        ensures base { self.new.base ≡ self.old.base }
-        ensures demanded { IsDemanded (E.limit_of self.old.eqs.now) (least (E.count_of self.old.eqs.now) (E.limit_of self.old.eqs.now) (E.right self.old.eqs.now)) (E.reads self.old.eqs.now) self.old.base.now.sets self.old.own self.new.own var steps.old steps.new result }
+        requires { var < E.count_of self.old.equations }
+        ensures { IsDemanded (E.limit_of self.old.equations) (least (E.count_of self.old.equations) (E.limit_of self.old.equations) (E.right self.old.equations)) (E.reads self.old.equations) self.old self.new var steps.old steps.new result }
     {
         if self.known(var).is_some() {
             return Ok(());
@@ -88,9 +110,9 @@ impl<'a, E: Equations> Solver<'a, E> {
     /// The set of a variable in the least solution, whatever was demanded before. What was solved stays solved, also where
     /// memory runs out, and the solver may be asked again.
     pub fn demand<L: Ledger>(&mut self, var: u64, steps: &mut Steps<L>) -> Result<&AbsSet, Memory>
-        requires { var < E.count_of self.old.eqs.now }
-        ensures value { IfOk result (λ s. s.now ≡ least (E.count_of self.old.eqs.now) (E.limit_of self.old.eqs.now) (E.right self.old.eqs.now) var) }
-        ensures* after { sem 𝓛 (follows_so (the_row (record { mir = named 1; lft = [] }) E.row E.Equations) (the_row (record { mir = named 1; lft = [] }) E.row E.Equations) self.entry.ghost_name maybe.none (λ _ _. ⊤) (λ v. (v.eqs ≡ self.old.eqs) × (v.base ≡ self.old.base) × IsDemanded (E.limit_of self.old.eqs.now) (least (E.count_of self.old.eqs.now) (E.limit_of self.old.eqs.now) (E.right self.old.eqs.now)) (E.reads self.old.eqs.now) self.old.base.now.sets self.old.own v.own var steps.old steps.new result)) }
+        requires { var < E.count_of self.old.equations }
+        ensures value { IfOk result (λ s. s.now ≡ least (E.count_of self.old.equations) (E.limit_of self.old.equations) (E.right self.old.equations) var) }
+        ensures* after { sem 𝓛 (follows_so (the_row (record { mir = named 1; lft = [] }) E.row E.Equations) (the_row (record { mir = named 1; lft = [] }) E.row E.Equations) self.entry.ghost_name maybe.none (λ _ _. ⊤) (λ v. IsDemanded (E.limit_of self.old.equations) (least (E.count_of self.old.equations) (E.limit_of self.old.equations) (E.right self.old.equations)) (E.reads self.old.equations) self.old v var steps.old steps.new result)) }
     {
         match self.settle(var, steps) {
             Err(memory) => Err(memory),

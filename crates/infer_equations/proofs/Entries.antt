@@ -1,10 +1,12 @@
 -- A `BTreeMap`'s entries as a finite map.
-use Rattle.std.proofs.Common.{◌≡◌, ℕ, cond, List, [], ◌∷◌, refl, sym, ◌∙◌, ap}
+use Rattle.std.proofs.Common.{◌≡◌, ℕ, cond, List, [], ◌∷◌, map, length, refl, sym, ◌∙◌, ap, arith}
 use Rattle.std.specs.Prelude.{Some, None}
 use Rattle.std.specs.Ordering.{nat_cmp, eq_by_cmp}
 use Rattle.std.specs.Cmp.{nat_cmp_total, eq_by_cmp_equiv}
 use Rattle.std.specs.Map.{lookup}
-use Rattle.std.specs.FinMap.{get, insert, find, from_entries, get-from_entries, get-insert, remove, get-remove, same_map, nat_cmp-IsAntisymmetric}
+use Rattle.std.specs.FinMap.{get, insert, find, from_entries, get-from_entries, get-insert, remove, get-remove, same_map, nat_cmp-IsAntisymmetric, entries, entries-insert, len, empty, len-empty, len-entries, keys}
+use Rattle.std.specs.FinMap.Entries.{by_order, put}
+use Rattle.std.specs.List.Sorted.{IsStrictlySortedBy}
 use Rattle.infer_sets.specs.Sets.{Set}
 
 lookup-find : (q : ℕ) (es : List (ℕ × Set)) → lookup (λ k. eq_by_cmp nat_cmp q k) es ≡ find nat_cmp q es
@@ -31,3 +33,27 @@ remove-entries_map es fs k h = same_map nat_cmp_total nat_cmp-IsAntisymmetric _ 
     ∙ ap (λ b. cond b None (lookup (λ x. eq_by_cmp nat_cmp q x) es)) ((eq_by_cmp_equiv nat_cmp_total).symm k q)
     ∙ ap (λ r. cond (eq_by_cmp nat_cmp q k) None r) (get-entries_map es q)
     ∙ sym (get-remove nat_cmp_total (from_entries es) k q))
+
+put_below : (es : List (ℕ × Set)) (k : ℕ) (s : Set) → IsStrictlySortedBy nat_cmp (map (λ e. e.0) ((k, s) ∷ es)) → put nat_cmp k s es ≡ (k, s) ∷ es
+unfolding IsStrictlySortedBy
+put_below [] k s h = refl
+put_below (e ∷ es) k s h = ap (λ r. by_order r ((k, s) ∷ e ∷ es) ((e.0, s) ∷ es) (e ∷ put nat_cmp k s es)) h.0.0
+
+none_by_length : (es : List (ℕ × Set)) → length es ≡ 0 → es ≡ []
+none_by_length [] e = refl
+none_by_length (x ∷ xs) e = absurd (omega arith)
+
+entries-none : entries (empty {X = Set} {R = nat_cmp}) ≡ []
+entries-none = none_by_length _ (sym (len-entries (empty {X = Set} {R = nat_cmp})) ∙ len-empty nat_cmp Set)
+
+-- entries that ascend are the map's
+pub entries-ascending : (es : List (ℕ × Set)) → IsStrictlySortedBy nat_cmp (map (λ e. e.0) es) → entries (from_entries {R = nat_cmp} es) ≡ es
+unfolding IsStrictlySortedBy
+entries-ascending [] h = entries-none
+entries-ascending (e ∷ es) h = entries-insert nat_cmp_total (from_entries es) e.0 e.1 ∙ ap (λ xs. put nat_cmp e.0 e.1 xs) (entries-ascending es h.1) ∙ put_below es e.0 e.1 h
+
+pub len-ascending : (es : List (ℕ × Set)) → IsStrictlySortedBy nat_cmp (map (λ e. e.0) es) → length es ≡ len (from_entries {R = nat_cmp} es)
+len-ascending es h = sym (len-entries (from_entries {R = nat_cmp} es) ∙ ap length (entries-ascending es h))
+
+pub keys-ascending : (es : List (ℕ × Set)) → IsStrictlySortedBy nat_cmp (map (λ e. e.0) es) → map (λ e. e.0) es ≡ keys (from_entries {R = nat_cmp} es)
+keys-ascending es h = sym (ap (λ xs. map (λ e. e.0) xs) (entries-ascending es h))

@@ -1,5 +1,5 @@
 // A table of sets by variable.
-ghost use Rattle.std.specs.Prelude.{◌≡◌, OnOk, OnErr, option_copied};
+ghost use Rattle.std.specs.Prelude.{◌≡◌, IfOk, OnOk, OnErr, option_copied};
 ghost use Rattle.std.specs.FinMap as map;
 
 use infer_sets::AbsSet;
@@ -50,6 +50,20 @@ impl Table {
     {
         self.entries.insert(var, set)?;
         Ok(())
+    }
+
+    /// How many variables the table has.
+    pub fn count(&self) -> u64
+        ensures { result ≡ map.len self.now }
+    {
+        self.entries.len() as u64
+    }
+
+    /// The variables of the table, in ascending order.
+    pub fn variables(&self, alloc: Global) -> Result<Vec<u64>, Memory>
+        ensures { IfOk result (λ v. v.items ≡ map.keys self.now) }
+    {
+        Ok(self.entries.keys().copied().collect(alloc)?)
     }
 
     /// Takes the variable's set out, if the table has one.

@@ -1,179 +1,31 @@
 -- A step of the worklist.
-use Rattle.std.proofs.Common.{◌≡◌, ◌≢◌, ℕ, zero, suc, ◌+◌, ◌*◌, ◌<◌, ◌≤◌, Bool, true, false, cond, not, ◌||◌, ◌&&◌, below_more, ◌⊎◌, inl, inr, List, [], ◌∷◌, ◌++◌, length, drop, refl, sym, ◌∙◌, ap, subst, arith, append_assoc, length-append, get_or}
+use Rattle.std.proofs.Common.{◌≡◌, ℕ, zero, suc, ◌+◌, ◌*◌, ◌<◌, ◌≤◌, Bool, true, false, cond, ◌⊎◌, inl, inr, List, [], ◌∷◌, ◌++◌, length, drop, refl, sym, ◌∙◌, ap, subst, arith, length-append}
 use Rattle.std.proofs.lemmas.Bool.Decides.{nat_tests}
-use Rattle.std.proofs.lemmas.List.{append-nil}
 use Rattle.std.proofs.lemmas.List.Elements.{Contains-append_left, Contains-append_right, Contains-append_cases, Contains-push, Contains-push_cases, All-contains}
 use Rattle.std.proofs.lemmas.Map.Keys.{IsDistinct-push, IsDistinct-from_apart}
 use Rattle.std.proofs.lemmas.Map.Made.{length-le_from_is_member}
-use Rattle.std.proofs.lemmas.List.Sums.{sum_by-append, sum_by-cons}
-use Rattle.std.specs.Prelude.{nat_lt, IsSome, is_some, Result, Ok, Err, OnErr, Option, Some, None, ◌==◌, nat_eq}
-use Rattle.std.specs.List.{All, Contains, IsDistinct, list_any, sum_by}
-use Rattle.std.specs.Cmp.{IsEquivalence, nat_eq_equiv}
+use Rattle.std.specs.Prelude.{IsSome, Result, Ok, Err, OnErr, Option, Some, None, ◌==◌, nat_eq}
+use Rattle.std.specs.List.{All, Contains, IsDistinct, sum_by}
+use Rattle.std.specs.Cmp.{nat_eq_equiv}
 use Rattle.std.specs.FinMap.{insert, get, empty}
 use Rattle.infer_sets.specs.Sets.{Set, none, is_below, Below, Fits, rank}
-use Rattle.infer_sets.proofs.SetOrder.{below-refl, below-antisym, below-none, fits-none, rank-le, rank-most}
-use Rattle.infer_equations.specs.Assignment.{Assignment, Map, Within, AllFit, Agree, or_none, either}
+use Rattle.infer_sets.proofs.SetOrder.{below-antisym, below-none, fits-none, rank-le, rank-most}
+use Rattle.infer_equations.specs.Assignment.{Assignment, Map, Within, AllFit, Agree, or_none}
 use Rattle.infer_equations.specs.Least.{least}
 use Rattle.infer_reached.specs.Tables.{found, assigned}
-use Rattle.infer_reached.specs.Settled.{Settled, IsSettled}
+use Rattle.infer_reached.specs.Settled.{IsSettled}
 use Rattle.infer_reached.specs.InProgress.{HasSet, InProgress}
 use Rattle.infer_reached.specs.Extension.{extended, added_by, WasRead, AllLeast}
 use Rattle.infer_lazy.specs.Reach.{Dep, Reach, start, on, IsCheap, Lacking, IsListed, IsSupported, AreSupported}
-use Rattle.infer_lazy.specs.Worklist.{same_pair, with_pair, paired, readers, Known, Lazy, credit}
+use Rattle.infer_lazy.specs.Pairs.{pair_cmp, readers}
+use Rattle.infer_lazy.specs.Worklist.{paired, Known, Lazy, credit}
+use Rattle.infer_lazy.proofs.Members.{head-in, tail-in, cons-cases, any_from}
+use Rattle.infer_lazy.proofs.Readers.{Paired, paired-all, readers-has, readers-in, readers-cost, sum-most, few-pairs}
+use Rattle.std.specs.List.Sorted.{IsStrictlySortedBy}
 use Rattle.infer_equations.proofs.Rounds.{Monotone, Limited, below-eq, least-fits}
 use Rattle.infer_reached.proofs.SettledIsLeast.{settled_is_least}
 use Rattle.infer_reached.proofs.Progress.{test_same, test_itself, progress-new, found-first, progress-raise, raise-within, has-insert, has-itself, assigned-insert, less_by}
-use Rattle.infer_reached.proofs.Extension.{Extends, Contains-head, Contains-tail, Contains-cons_cases, assigned-apart, assigned_at, own_has, none_some, any_contains, extends_as, extends_has, read-in_range, no_run, no_set}
-
--- members of lists, for any type
-module _ {A : Type 0} where
-  head-in : (x : A) (xs : List A) → Contains (x ∷ xs) x
-  head-in x xs = (0, omega arith, refl)
-
-  tail-in : (x : A) (xs : List A) (w : A) → Contains xs w → Contains (x ∷ xs) w
-  tail-in x xs w p = (suc p.0, omega arith, p.2)
-
-  cons-cases : (x : A) (xs : List A) (w : A) → Contains (x ∷ xs) w → (x ≡ w) ⊎ Contains xs w
-  cons-cases x xs w (zero, l, e) = inl e
-  cons-cases x xs w (suc k, l, e) = inr (k, omega arith, e)
-
-both : (a c : Bool) → (a && c) ≡ true → (a ≡ true) × (c ≡ true)
-both true c e = (refl, e)
-both false c e = absurd (let h = e in cc)
-
-pair_same : (p q : ℕ × ℕ) → same_pair p q ≡ true → p ≡ q
-pair_same p q e =
-    let h = both (p.0 == q.0) (p.1 == q.1) e in
-    let a = test_same p.0 q.0 h.0 in
-    let c = test_same p.1 q.1 h.1 in
-    λ i. (a i, c i)
-
-same_itself : (p : ℕ × ℕ) → same_pair p p ≡ true
-same_itself p = ap (λ c. c && (p.1 == p.1)) (test_itself p.0) ∙ test_itself p.1
-
-same_left : (p q r : ℕ × ℕ) (c : Bool) → same_pair p q ≡ c → c ≡ true → same_pair p r ≡ same_pair q r
-same_left p q r c e h = ap (λ x. same_pair x r) (pair_same p q (e ∙ h))
-
-symm_by : (p q : ℕ × ℕ) (c d : Bool) → same_pair p q ≡ c → same_pair q p ≡ d → c ≡ d
-symm_by p q true d e f = sym (ap (λ x. same_pair q x) (pair_same p q e) ∙ same_itself q) ∙ f
-symm_by p q false true e f = sym e ∙ ap (λ x. same_pair x q) (sym (pair_same q p f)) ∙ same_itself q
-symm_by p q false false e f = refl
-
-pub same_pair-equiv : IsEquivalence same_pair
-same_pair-equiv = record {
-  refl = same_itself;
-  symm = λ p q. symm_by p q (same_pair p q) (same_pair q p) refl refl;
-  congr = λ p q r e. same_left p q r (same_pair p q) refl e;
-}
-
--- what the loop over the variables that were read adds
-pub record Paired (o : Map) (v : ℕ) (ws : List ℕ) (ps qs : List (ℕ × ℕ)) : Type 0 where
-  pub more : List (ℕ × ℕ)
-  pub is : qs ≡ ps ++ more
-  pub new : (u w : ℕ) → Contains qs (u, w) → Contains ps (u, w) ⊎ ((u ≡ v) × Contains ws w × IsSome (get o w))
-  pub has : (w : ℕ) → Contains ws w → IsSome (get o w) → Contains qs (v, w)
-  pub apart : IsDistinct same_pair ps → IsDistinct same_pair qs
-
-any_pair_by : (p q : ℕ × ℕ) (ps : List (ℕ × ℕ)) (c : Bool) → same_pair p q ≡ c → (c || list_any (same_pair p) ps) ≡ true → (list_any (same_pair p) ps ≡ true → Contains ps p) → Contains (q ∷ ps) p
-any_pair_by p q ps true e h more = subst (λ x. Contains (q ∷ ps) x) (sym (pair_same p q e)) (head-in q ps)
-any_pair_by p q ps false e h more = tail-in q ps p (more h)
-
-some_at : (o : Option Set) (s : Set) → o ≡ Some s → is_some o ≡ true
-some_at o s e = ap (λ x. is_some x) e
-
-only_head : (w : ℕ) (ws : List ℕ) (z : ℕ) → Contains (w ∷ []) z → Contains (w ∷ ws) z
-only_head w ws z c = elim (cons-cases w [] z c) [ inl is ↦ subst (λ y. Contains (w ∷ ws) y) is (head-in w ws) | inr n ↦ absurd (let l = n.1 in omega arith) ]
-
-any_pair : (p : ℕ × ℕ) (ps : List (ℕ × ℕ)) → list_any (same_pair p) ps ≡ true → Contains ps p
-any_pair p [] e = absurd (let h = e in cc)
-any_pair p (q ∷ ps) e = any_pair_by p q ps (same_pair p q) refl e (any_pair p ps)
-
-is_none : (x : Option Set) → x ≡ None → IsSome x → ⊥
-is_none None e h = absurd (let p = h in cc)
-is_none (Some s) e h = absurd (let p = e in cc)
-
--- one more pair, or none
-pub with_one : (o : Map) (v w : ℕ) (ps : List (ℕ × ℕ)) (x : Option Set) → get o w ≡ x → (c : Bool) → list_any (same_pair (v, w)) ps ≡ c → Paired o v (w ∷ []) ps (with_pair x v w ps)
-with_one o v w ps None e c a = record {
-  more = [];
-  is = sym (append-nil ps);
-  new = λ u z h. inl h;
-  has = λ z d h. elim (cons-cases w [] z d) [ inl is ↦ absurd (is_none (get o w) e (subst (λ y. IsSome (get o y)) (sym is) h)) | inr n ↦ absurd (let l = n.1 in omega arith) ];
-  apart = λ d. d;
-}
-with_one o v w ps (Some s) e true a = subst (λ qs. Paired o v (w ∷ []) ps qs) (sym (ap (λ c. cond c ps (ps ++ (v, w) ∷ [])) a)) (record {
-  more = [];
-  is = sym (append-nil ps);
-  new = λ u z h. inl h;
-  has = λ z d h. elim (cons-cases w [] z d) [ inl is ↦ subst (λ y. Contains ps (v, y)) is (any_pair (v, w) ps a) | inr n ↦ absurd (let l = n.1 in omega arith) ];
-  apart = λ d. d;
-})
-with_one o v w ps (Some s) e false a = subst (λ qs. Paired o v (w ∷ []) ps qs) (sym (ap (λ c. cond c ps (ps ++ (v, w) ∷ [])) a)) (record {
-  more = (v, w) ∷ [];
-  is = refl;
-  new = λ u z h. elim (Contains-push_cases ps (v, w) (u, z) h) [
-    | inl d ↦ inl d
-    | inr is ↦ inr (ap (λ (p : ℕ × ℕ). p.0) (sym is), subst (λ (y : ℕ). Contains (w ∷ []) y) (ap (λ (p : ℕ × ℕ). p.1) is) (head-in w []), ap (λ (p : ℕ × ℕ). is_some (get o p.1)) (sym is) ∙ some_at (get o w) s e)
-  ];
-  has = λ z d h. elim (cons-cases w [] z d) [ inl is ↦ subst (λ y. Contains (ps ++ (v, w) ∷ []) (v, y)) is (Contains-push ps (v, w)) | inr n ↦ absurd (let l = n.1 in omega arith) ];
-  apart = λ d. IsDistinct-push same_pair-equiv ps (v, w) d a;
-})
-
-pub paired-all : (o : Map) (v : ℕ) (ws : List ℕ) (ps : List (ℕ × ℕ)) → Paired o v ws ps (paired o v ws ps)
-paired-all o v [] ps = record { more = []; is = sym (append-nil ps); new = λ u w h. inl h; has = λ w c h. absurd (let l = c.1 in omega arith); apart = λ d. d }
-paired-all o v (w ∷ ws) ps =
-    let m = with_pair (get o w) v w ps in
-    let one = with_one o v w ps (get o w) refl (list_any (same_pair (v, w)) ps) refl in
-    let rest = paired-all o v ws m in
-    record {
-      more = one.more ++ rest.more;
-      is = rest.is ∙ ap (λ xs. xs ++ rest.more) one.is ∙ append_assoc ps one.more rest.more;
-      new = λ u z h. elim (rest.new u z h) [
-        | inl d ↦ elim (one.new u z d) [ inl e ↦ inl e | inr n ↦ inr (n.0, only_head w ws z n.1, n.2) ]
-        | inr n ↦ inr (n.0, tail-in w ws z n.1, n.2)
-      ];
-      has = λ z c h. elim (cons-cases w ws z c) [
-        | inl is ↦ subst (λ qs. Contains qs (v, z)) (sym rest.is) (Contains-append_left m rest.more (v, z) (one.has z (subst (λ y. Contains (w ∷ []) y) is (head-in w [])) h))
-        | inr d ↦ rest.has z d h
-      ];
-      apart = λ d. rest.apart (one.apart d);
-    }
-
-has_by : (v u : ℕ) (p : ℕ × ℕ) (ps : List (ℕ × ℕ)) (c : Bool) → (p.1 == v) ≡ c → (p ≡ (u, v)) ⊎ Contains ps (u, v) → (Contains ps (u, v) → Contains (readers v ps) u) → Contains (cond c (p.0 ∷ readers v ps) (readers v ps)) u
-has_by v u p ps true e (inl is) more = subst (λ x. Contains (p.0 ∷ readers v ps) x) (ap (λ (x : ℕ × ℕ). x.0) is) (head-in p.0 (readers v ps))
-has_by v u p ps true e (inr d) more = tail-in p.0 (readers v ps) u (more d)
-has_by v u p ps false e (inl is) more = absurd (let h : (p.1 == v) ≡ true = ap (λ (x : ℕ × ℕ). x.1 == v) is ∙ test_itself v in cc)
-has_by v u p ps false e (inr d) more = more d
-
-in_by : (v u : ℕ) (p : ℕ × ℕ) (ps : List (ℕ × ℕ)) (c : Bool) → (p.1 == v) ≡ c → Contains (cond c (p.0 ∷ readers v ps) (readers v ps)) u → (Contains (readers v ps) u → Contains ps (u, v)) → Contains (p ∷ ps) (u, v)
-in_by v u p ps true e h more = elim (cons-cases p.0 (readers v ps) u h) [
-  | inl is ↦ subst (λ (x : ℕ × ℕ). Contains (p ∷ ps) x) (let a = test_same p.1 v e in λ i. (is i, a i)) (head-in p ps)
-  | inr d ↦ tail-in p ps (u, v) (more d)
-]
-in_by v u p ps false e h more = tail-in p ps (u, v) (more h)
-
-cost_by : (v : ℕ) (f g : ℕ → ℕ) (p : ℕ × ℕ) (ps : List (ℕ × ℕ)) (c : Bool) → (p.1 == v) ≡ c → ((w : ℕ) → f w ≤ g w) → f v < g v → sum_by (λ p. f p.1) ps + length (readers v ps) ≤ sum_by (λ p. g p.1) ps
-    → (f p.1 + sum_by (λ p. f p.1) ps) + length (cond c (p.0 ∷ readers v ps) (readers v ps)) ≤ g p.1 + sum_by (λ p. g p.1) ps
-cost_by v f g p ps true e le lt h = let m : f p.1 < g p.1 = subst (λ x. f x < g x) (sym (test_same p.1 v e)) lt in omega arith
-cost_by v f g p ps false e le lt h = let m = le p.1 in omega arith
-
--- readers
-pub readers-has : (v u : ℕ) (ps : List (ℕ × ℕ)) → Contains ps (u, v) → Contains (readers v ps) u
-readers-has v u [] c = absurd (let l = c.1 in omega arith)
-readers-has v u (p ∷ ps) c = has_by v u p ps (p.1 == v) refl (cons-cases p ps (u, v) c) (readers-has v u ps)
-
-pub readers-in : (v u : ℕ) (ps : List (ℕ × ℕ)) → Contains (readers v ps) u → Contains ps (u, v)
-readers-in v u [] c = absurd (let l = c.1 in omega arith)
-readers-in v u (p ∷ ps) c = in_by v u p ps (p.1 == v) refl c (readers-in v u ps)
-
--- where the set of v rises, each pair that reads v weighs one more
-pub readers-cost : (v : ℕ) (f g : ℕ → ℕ) → ((w : ℕ) → f w ≤ g w) → f v < g v → (ps : List (ℕ × ℕ)) → sum_by (λ p. f p.1) ps + length (readers v ps) ≤ sum_by (λ p. g p.1) ps
-readers-cost v f g le lt [] = omega arith
-readers-cost v f g le lt (p ∷ ps) =
-    let a = sum_by-cons (λ (p : ℕ × ℕ). f p.1) p ps in
-    let c = sum_by-cons (λ (p : ℕ × ℕ). g p.1) p ps in
-    let h = cost_by v f g p ps (p.1 == v) refl le lt (readers-cost v f g le lt ps) in
-    subst (λ x. x + length (readers v (p ∷ ps)) ≤ sum_by (λ (p : ℕ × ℕ). g p.1) (p ∷ ps)) (sym a) (subst (λ x. (f p.1 + sum_by (λ (p : ℕ × ℕ). f p.1) ps) + length (readers v (p ∷ ps)) ≤ x) (sym c) h)
+use Rattle.infer_reached.proofs.Extension.{Extends, assigned-apart, assigned_at, own_has, none_some, any_contains, extends_as, extends_has, read-in_range, no_run, no_set}
 
 test_by : (z v : ℕ) (c : Bool) → (z == v) ≡ c → (z ≡ v → ⊥) → c ≡ false
 test_by z v true e n = absurd (n (test_same z v e))
@@ -223,8 +75,8 @@ module _ (count limit : ℕ) (right : ℕ → Assignment → Set) (reads : ℕ �
     split : (u : ℕ) → Contains q.1 u → Contains run u ⊎ Contains w.more u
     split u c = Contains-append_cases run w.more u (subst (λ xs. Contains xs u) w.run c)
 
-    old_pair : (u z : ℕ) → Contains pairs (u, z) → Contains qs (u, z)
-    old_pair u z c = subst (λ xs. Contains xs (u, z)) (sym ps.is) (Contains-append_left pairs ps.more (u, z) c)
+    old_pair : (u z : ℕ) → Contains pairs (z, u) → Contains qs (z, u)
+    old_pair u z c = ps.keeps (z, u) c
 
     dep : (z : ℕ) → Contains noted z → Dep (least count limit right) reads v z
     dep z c = record { at = assigned (b, o); within = h.progress.within; read = All-contains (λ x. Contains (reads v (assigned (b, o))) x) noted z r.within c }
@@ -287,7 +139,7 @@ module _ (count limit : ℕ) (right : ℕ → Assignment → Set) (reads : ℕ �
     known_all u true e (inl d) = subst (λ x. Contains waits x ⊎ Known right (b, o') q.1 qs x (assigned (b, o') x)) (sym (test_same u v e)) known_v
     known_all u false e (inl d) = known_other u (apart_from u v e) d
 
-    pairs_all : (u z : ℕ) → Contains pairs (u, z) ⊎ ((u ≡ v) × Contains noted z × IsSome (get q.0 z)) → Contains q.1 u × Contains q.1 z × Dep (least count limit right) reads u z
+    pairs_all : (u z : ℕ) → Contains pairs (z, u) ⊎ ((u ≡ v) × Contains noted z × IsSome (get q.0 z)) → Contains q.1 u × Contains q.1 z × Dep (least count limit right) reads u z
     pairs_all u z (inl c) = let d = h.pairs_in u z c in (lift u d.0, lift z d.1, d.2)
     pairs_all u z (inr n) =
         (subst (λ x. Contains q.1 x) (sym n.0) (lift v v_run), w.progress.stored z n.2, subst (λ x. Dep (least count limit right) reads x z) (sym n.0) (dep z n.1))
@@ -310,7 +162,7 @@ module _ (count limit : ℕ) (right : ℕ → Assignment → Set) (reads : ℕ �
       pairs_in = λ u z c. pairs_all u z (ps.new u z c);
       reached = λ u c. reached_all u (split u c);
       distinct = w.apart h.distinct;
-      apart = ps.apart h.apart;
+      ordered = ps.ordered h.ordered;
     }
 
   -- nothing waits: each set is that of the least solution
@@ -345,59 +197,23 @@ module _ (count limit : ℕ) (right : ℕ → Assignment → Set) (reads : ℕ �
   lazy_supported = record { at = λ v has. supported_by v (h.progress.stored v has) (h.known v (h.progress.stored v has)) }
 
 -- what the steps may still cost
-sum-le : (f g : ℕ → ℕ) → ((w : ℕ) → f w ≤ g w) → (ps : List (ℕ × ℕ)) → sum_by (λ p. f p.1) ps ≤ sum_by (λ p. g p.1) ps
-sum-le f g le [] = omega arith
-sum-le f g le (p ∷ ps) =
-    let a = sum_by-cons (λ (p : ℕ × ℕ). f p.1) p ps in
-    let c = sum_by-cons (λ (p : ℕ × ℕ). g p.1) p ps in
-    let h = sum-le f g le ps in
-    let m = le p.1 in
-    subst (λ x. x ≤ sum_by (λ (p : ℕ × ℕ). g p.1) (p ∷ ps)) (sym a) (subst (λ x. f p.1 + sum_by (λ (p : ℕ × ℕ). f p.1) ps ≤ x) (sym c) (omega arith))
-
-sum-more : (f : ℕ → ℕ) (ps more qs : List (ℕ × ℕ)) → qs ≡ ps ++ more → sum_by (λ p. f p.1) ps ≤ sum_by (λ p. f p.1) qs
-sum-more f ps more qs e =
-    let a = sum_by-append (λ (p : ℕ × ℕ). f p.1) ps more in
-    subst (λ xs. sum_by (λ (p : ℕ × ℕ). f p.1) ps ≤ sum_by (λ (p : ℕ × ℕ). f p.1) xs) (sym e) (subst (λ x. sum_by (λ (p : ℕ × ℕ). f p.1) ps ≤ x) (sym a) (omega arith))
-
-pub credit-step : (limit : ℕ) (t t' : Map × Map) (run more run' : List ℕ) (ps new qs : List (ℕ × ℕ)) (n rest extra : ℕ)
-    → run' ≡ run ++ more → qs ≡ ps ++ new
-    → sum_by (λ p. rank limit (assigned t p.1)) qs + extra ≤ sum_by (λ p. rank limit (assigned t' p.1)) qs
+pub credit-step : (limit : ℕ) (t t' : Map × Map) (run more run' : List ℕ) (ps qs : List (ℕ × ℕ)) (n rest extra : ℕ)
+    → run' ≡ run ++ more → ((f : ℕ → ℕ) → sum_by (λ p. f p.0) ps ≤ sum_by (λ p. f p.0) qs)
+    → sum_by (λ p. rank limit (assigned t p.0)) qs + extra ≤ sum_by (λ p. rank limit (assigned t' p.0)) qs
     → n ≤ rest + length more + extra
     → n + credit limit t run ps ≤ rest + credit limit t' run' qs
 unfolding credit
-credit-step limit t t' run more run' ps new qs n rest extra e f s h =
+credit-step limit t t' run more run' ps qs n rest extra e sums s h =
     let l : length run' ≡ length run + length more = ap length e ∙ length-append run more in
-    let m = sum-more (λ w. rank limit (assigned t w)) ps new qs f in
+    let m = sums (λ w. rank limit (assigned t w)) in
     omega arith
 
 -- the steps of a demand are few
-sum-most : (f : ℕ → ℕ) (c : ℕ) → ((w : ℕ) → f w ≤ c) → (ps : List (ℕ × ℕ)) → sum_by (λ p. f p.1) ps ≤ length ps * c
-sum-most f c le [] = omega arith
-sum-most f c le (p ∷ ps) =
-    let a = sum_by-cons (λ (p : ℕ × ℕ). f p.1) p ps in
-    let h = sum-most f c le ps in
-    let m = le p.1 in
-    subst (λ x. x ≤ length (p ∷ ps) * c) (sym a) (omega arith)
-
-or_later : (a c : Bool) → c ≡ true → (a || c) ≡ true
-or_later true c e = refl
-or_later false c e = e
-
 times_le : (a c k : ℕ) → a ≤ c → a * k ≤ c * k
 times_le a c k h = grind arith
 
-any_from : {A : Type 0} (e : A → A → Bool) → ((x : A) → e x x ≡ true) → (q : A) (ks : List A) → Contains ks q → list_any (e q) ks ≡ true
-any_from e it q [] c = absurd (let l = c.1 in omega arith)
-any_from e it q (k ∷ ks) c = elim (cons-cases k ks q c) [
-  | inl is ↦ ap (λ b. b || list_any (e q) ks) (ap (λ x. e q x) is ∙ it q)
-  | inr d ↦ or_later (e q k) (list_any (e q) ks) (any_from e it q ks d)
-]
-
 pub few-vars : (run vars : List ℕ) → IsDistinct nat_eq run → ((v : ℕ) → Contains run v → Contains vars v) → length run ≤ length vars
 few-vars run vars d all = length-le_from_is_member nat_eq_equiv run vars d (λ q m. any_from nat_eq test_itself q vars (all q (any_contains q run m)))
-
-pub few-pairs : (ps qs : List (ℕ × ℕ)) → IsDistinct same_pair ps → ((v w : ℕ) → Contains ps (v, w) → Contains qs (v, w)) → length ps ≤ length qs
-few-pairs ps qs d all = length-le_from_is_member same_pair-equiv ps qs d (λ q m. any_from same_pair same_itself q qs (all q.0 q.1 (any_pair q ps m)))
 
 pub credit-most : (limit : ℕ) (t : Map × Map) (run vars : List ℕ) (ps pairs : List (ℕ × ℕ)) → AllFit limit (assigned t) → length run ≤ length vars → length ps ≤ length pairs → credit limit t run ps ≤ length vars + (limit + 2) * length pairs
 unfolding credit
@@ -437,8 +253,8 @@ module _ (count limit : ℕ) (right : ℕ → Assignment → Set) (reads : ℕ �
       let below : Below s (assigned (b, q.0) v) = record { is = ap (λ x. is_below s x) (sym here) ∙ e } in
       let is : s ≡ assigned (b, o) v = below-antisym s (assigned (b, o) v) (subst (λ a. Below s (a v)) w.same below) (subst (λ x. Below (assigned (b, o) v) x) (sym r.value) (h.progress.rising v run_v)) in
       let at = ap (λ (a : Assignment). a v) w.same in
-      let equal : sum_by (λ p. rank limit (assigned (b, o) p.1)) qs + 0 ≤ sum_by (λ p. rank limit (assigned (b, q.0) p.1)) qs =
-      subst (λ (a : Assignment). sum_by (λ (p : ℕ × ℕ). rank limit (a p.1)) qs + 0 ≤ sum_by (λ p. rank limit (assigned (b, q.0) p.1)) qs) w.same (omega arith) in (
+      let equal : sum_by (λ p. rank limit (assigned (b, o) p.0)) qs + 0 ≤ sum_by (λ p. rank limit (assigned (b, q.0) p.0)) qs =
+      subst (λ (a : Assignment). sum_by (λ (p : ℕ × ℕ). rank limit (a p.0)) qs + 0 ≤ sum_by (λ p. rank limit (assigned (b, q.0) p.0)) qs) w.same (omega arith) in (
         record {
           progress = w.progress;
           itself = at ∙ sym is;
@@ -449,7 +265,7 @@ module _ (count limit : ℕ) (right : ℕ → Assignment → Set) (reads : ℕ �
           more_waits = λ u c. Contains-append_right rest w.more u c;
           waiting = λ u c. elim (Contains-append_cases rest w.more u c) [ inl d ↦ inl d | inr d ↦ inr (inl d) ];
         },
-        credit-step limit (b, o) (b, q.0) run w.more q.1 pairs ps.more qs (length (rest ++ w.more)) (length rest) 0 w.run ps.is equal (omega (arith, length-append rest w.more)),
+        credit-step limit (b, o) (b, q.0) run w.more q.1 pairs qs (length (rest ++ w.more)) (length rest) 0 w.run ps.sums equal (omega (arith, length-append rest w.more)),
       )
 
   stepped_rises : is_below s (or_none (get q.0 v)) ≡ false → Stepped (insert q.0 v s) ((rest ++ w.more) ++ readers v qs)
@@ -480,7 +296,7 @@ module _ (count limit : ℕ) (right : ℕ → Assignment → Set) (reads : ℕ �
             | inr d ↦ inr (inr d)
           ];
         },
-        credit-step limit (b, o) (b, o') run w.more q.1 pairs ps.more qs (length ((rest ++ w.more) ++ readers v qs)) (length rest) (length (readers v qs)) w.run ps.is
+        credit-step limit (b, o) (b, o') run w.more q.1 pairs qs (length ((rest ++ w.more) ++ readers v qs)) (length rest) (length (readers v qs)) w.run ps.sums
             (readers-cost v (λ z. rank limit (assigned (b, o) z)) (λ z. rank limit (assigned (b, o') z)) le lt qs)
             (omega (arith, length-append (rest ++ w.more) (readers v qs), length-append rest w.more)),
       )
@@ -531,6 +347,10 @@ module _ (count limit : ℕ) (right : ℕ → Assignment → Set) (reads : ℕ �
         stepped count limit right reads mono fits b starts o run rest v pairs h s noted r q extends_here qs ps
         waited (waitede ∙ ap (λ x. rest ++ x) (ap (λ x. drop n x) re ∙ fresh-ones run q.1 extends_here.more n extends_here.run ne)) o' oe waits
         (wse ∙ ap (λ x. cond (is_below s (or_none (get q.0 v))) waited (waited ++ readers v x)) rse)
+
+none_ordered : IsStrictlySortedBy pair_cmp []
+unfolding IsStrictlySortedBy
+none_ordered = tt
 
 no_pair : (ps : List (ℕ × ℕ)) → ps ≡ [] → (p : ℕ × ℕ) → Contains ps p → ⊥
 no_pair ps e p c = let l = ap length e in let h = c.1 in omega arith
@@ -596,7 +416,7 @@ module _ (count limit : ℕ) (right : ℕ → Assignment → Set) (reads : ℕ �
   pub credit-few : (N : ℕ → Type 0) → ((v : ℕ) → Contains run v → N v) → (from now : ℕ) → now ≤ from + credit limit (b, o) run pairs → IsCheap limit (least count limit right) reads N from now
   credit-few N all from now le vars ps vs pss =
       let a = few-vars run vars h.distinct (λ v c. vs v (all v c)) in
-      let d = few-pairs pairs ps h.apart (λ v w c. let k = h.pairs_in v w c in pss v w (all v k.0) (all w k.1) k.2) in
+      let d = few-pairs pairs ps h.ordered (λ v w c. let k = h.pairs_in v w c in pss v w (all v k.0) (all w k.1) k.2) in
       let m = credit-most limit (b, o) run vars pairs ps h.progress.fits a d in
       omega arith
 
@@ -604,7 +424,7 @@ module _ (count limit : ℕ) (right : ℕ → Assignment → Set) (reads : ℕ �
   unfolding most_steps
   credit-bound =
       let a = few-vars run (upto count) h.distinct (λ v c. in-upto count v (h.progress.counted v c)) in
-      let d = few-pairs pairs (grid count count) h.apart (λ v w c. let k = h.pairs_in v w c in in-grid count count v w (h.progress.counted v k.0) (h.progress.counted w k.1)) in
+      let d = few-pairs pairs (grid count count) h.ordered (λ v w c. let k = h.pairs_in v w c in in-grid count count v w (h.progress.counted v k.0) (h.progress.counted w k.1)) in
       credit-most limit (b, o) run (upto count) pairs (grid count count) h.progress.fits a d
 
   pub run_lacking : (v : ℕ) → Contains run v → Lacking (least count limit right) reads b starts v
@@ -650,10 +470,10 @@ module _ (count limit : ℕ) (right : ℕ → Assignment → Set) (reads : ℕ �
         progress = subst (λ (x : Map × List ℕ). InProgress count limit right (b, x.0) x.1) (sym e) g;
         known = λ u c. inl (subst (λ xs. Contains xs u) (sym pe) (inside u c));
         waiting = λ u c. subst (λ xs. Contains xs u) (sym (ap (λ (x : Map × List ℕ). x.1) e ∙ r1)) (subst (λ xs. Contains xs u) pe c);
-        pairs_in = λ u z c. absurd (no_pair pairs pse (u, z) c);
+        pairs_in = λ u z c. absurd (no_pair pairs pse (z, u) c);
         reached = λ u c. start (inside u c);
         distinct = subst (λ xs. IsDistinct nat_eq xs) (sym (ap (λ (x : Map × List ℕ). x.1) e ∙ r1)) (IsDistinct-push nat_eq_equiv [] v (IsDistinct-from_apart nat_eq [] (λ i j d l m. absurd (omega arith))) refl);
-        apart = subst (λ xs. IsDistinct same_pair xs) (sym pse) (IsDistinct-from_apart same_pair [] (λ i j d l m. absurd (omega arith)));
+        ordered = subst (λ xs. IsStrictlySortedBy pair_cmp xs) (sym pse) none_ordered;
       }
 
   pub lazy-first_has : (o : Map) (run : List ℕ) (v : ℕ) (q : Map × List ℕ) → found (b, o) v ≡ None → q ≡ added_by (found (b, o) v) o run v → HasSet (b, q.0) v

@@ -1,3 +1,4 @@
+pub mod Pairs
 pub mod Reach
 pub mod Worklist
 pub mod Kept

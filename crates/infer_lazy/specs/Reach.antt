@@ -1,12 +1,10 @@
 -- Dependence between variables, what is reached from some, and how many steps a demand may take.
-use Rattle.std.specs.Prelude.{◌≡◌, ℕ, ◌+◌, ◌*◌, ◌<◌, ◌≤◌, ◌==◌, ◌&&◌, List, [], ◌∷◌, ◌++◌, length, Some, None, Option, ◌⊎◌, Bool, cond, IsSome, nat_eq, drop}
-use Rattle.std.specs.List.{Contains, IsDistinct, list_any, sum_by}
+use Rattle.std.specs.Prelude.{◌≡◌, ℕ, ◌+◌, ◌*◌, ◌≤◌, List, length, None, IsSome}
+use Rattle.std.specs.List.{Contains}
 use Rattle.std.specs.FinMap as map
-use Rattle.infer_sets.specs.Sets.{Set, rank}
+use Rattle.infer_sets.specs.Sets.{Set}
 use Rattle.infer_equations.specs.Assignment.{Assignment, Map, Within, Agree}
-use Rattle.infer_equations.specs.Least.{least}
-use Rattle.infer_reached.specs.Tables.{found, assigned}
-use Rattle.infer_reached.specs.InProgress.{HasSet, InProgress}
+use Rattle.infer_reached.specs.InProgress.{HasSet}
 
 -- v may read w: some assignment within the least solution has w among the reads of v
 pub record Dep (low : Assignment) (reads : ℕ → Assignment → List ℕ) (v w : ℕ) : Type 0 where

@@ -9,12 +9,12 @@ ghost use Rattle.infer_lazy.specs.Kept.{kept_by};
 use infer_equations::Table;
 use lint_values::Memory;
 
-/// Moves the sets of the listed variables into the table of the solved ones. Where memory runs out that table stays as
-/// it was, and the sets are given up.
+/// Moves the sets of the listed variables, which are those that the table of the solved ones lacks, into that table.
+/// Where memory runs out that table stays as it was, and the sets are given up.
 pub fn keep_all(own: &mut Table, work: &mut Table, run: &[u64]) -> Result<(), Memory>
     requires apart { (v : ℕ) → Contains run.now v → map.get own.old v ≡ None }
-    requires stored { (v : ℕ) → IsSome (map.get work.old v) → Contains run.now v }
-    ensures ok { OnOk result (own.new ≡ overlaid work.old own.old) }
+    requires stored { (v : ℕ) → IsSome (map.get work.old v) → map.get own.old v ≡ None → Contains run.now v }
+    ensures ok { OnOk result (own.new ≡ overlaid own.old work.old) }
     ensures err { OnErr result (own.new ≡ own.old) }
 {
     for var in run {

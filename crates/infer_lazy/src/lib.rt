@@ -2,6 +2,7 @@
 #![tactic(auto)]
 
 mod keep;
+mod pairs;
 mod worklist;
 
 pub use keep::keep_all;

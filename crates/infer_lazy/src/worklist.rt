@@ -9,8 +9,10 @@ ghost use Rattle.infer_reached.specs.Tables.{found, assigned};
 ghost use Rattle.infer_reached.specs.InProgress.{InProgress, HasSet, weight};
 ghost use Rattle.infer_reached.specs.Extension.{extended, added_by, WasRead, AllLeast};
 ghost use Rattle.infer_lazy.specs.Reach.{IsCheap, Lacking, IsListed, AreSupported};
-ghost use Rattle.infer_lazy.specs.Worklist.{same_pair, with_pair, paired, readers, Lazy, credit};
+ghost use Rattle.infer_lazy.specs.Pairs.{readers};
+ghost use Rattle.infer_lazy.specs.Worklist.{with_pair, paired, Lazy, credit};
 
+use crate::pairs::Pairs;
 use infer_equations::{Equations, Solved, Steps, Table};
 use infer_reached::{add_all, add_one, evaluate, raise};
 use infer_sets::AbsSet;
@@ -18,51 +20,21 @@ use lint_values::Memory;
 use std::alloc::Global;
 use std::sync::ledger::Ledger;
 
-fn has_pair(pairs: &[(u64, u64)], reader: u64, read: u64) -> bool
-    ensures { result ≡ list_any (same_pair (reader, read)) pairs.now }
+fn pair_one(work: &Table, reader: u64, read: u64, pairs: &mut Pairs) -> Result<(), Memory>
+    ensures { OnOk result (pairs.new ≡ with_pair (map.get work.now read) reader read pairs.old) }
 {
-    pairs.iter().any(|p| reader == p.0 && read == p.1)
-}
-
-fn pair_one(work: &Table, reader: u64, read: u64, pairs: &mut Vec<(u64, u64)>) -> Result<(), Memory>
-    ensures { OnOk result (pairs.new.items ≡ with_pair (map.get work.now read) reader read pairs.old.items) }
-{
-    if work.find(read).is_some() && !has_pair(pairs, reader, read) {
-        pairs.push((reader, read))?;
+    if work.find(read).is_some() {
+        pairs.add(read, reader)?;
     }
     Ok(())
 }
 
 // Pairs the reader with each variable in progress that it read.
-fn pair_all(
-    work: &Table,
-    reader: u64,
-    noted: &[u64],
-    pairs: &mut Vec<(u64, u64)>,
-) -> Result<(), Memory>
-    ensures { OnOk result (pairs.new.items ≡ paired work.now reader noted.now pairs.old.items) }
+fn pair_all(work: &Table, reader: u64, noted: &[u64], pairs: &mut Pairs) -> Result<(), Memory>
+    ensures { OnOk result (pairs.new ≡ paired work.now reader noted.now pairs.old) }
 {
     for var in noted {
         pair_one(work, reader, *var, pairs)?;
-    }
-    Ok(())
-}
-
-fn wake_one(pair: (u64, u64), var: u64, pending: &mut Vec<u64>) -> Result<(), Memory>
-    ensures { OnOk result (pending.new.items ≡ pending.old.items ++ (if pair.1 == var then pair.0 ∷ [] else [])) }
-{
-    if pair.1 == var {
-        pending.push(pair.0)?;
-    }
-    Ok(())
-}
-
-// Who read the variable waits.
-fn wake(var: u64, pairs: &[(u64, u64)], pending: &mut Vec<u64>) -> Result<(), Memory>
-    ensures { OnOk result (pending.new.items ≡ pending.old.items ++ readers var pairs.now) }
-{
-    for pair in pairs {
-        wake_one(*pair, var, pending)?;
     }
     Ok(())
 }
@@ -81,7 +53,7 @@ fn raise_and_wake(
     work: &mut Table,
     var: u64,
     set: AbsSet,
-    pairs: &[(u64, u64)],
+    pairs: &Pairs,
     pending: &mut Vec<u64>,
 ) -> Result<(), Memory>
     requires { IsSome (map.get work.old var) }
@@ -90,7 +62,7 @@ fn raise_and_wake(
 {
     let up = raise(work, var, set)?;
     if up {
-        wake(var, pairs, pending)?;
+        pairs.wake(var, pending)?;
     }
     Ok(())
 }
@@ -103,15 +75,15 @@ fn step_one<E: Equations, L: Ledger>(
     work: &mut Table,
     run: &mut Vec<u64>,
     pending: &mut Vec<u64>,
-    pairs: &mut Vec<(u64, u64)>,
+    pairs: &mut Pairs,
     start: u64,
     var: u64,
     steps: &mut Steps<L>,
 ) -> Result<(), Memory>
-    requires { Lazy (E.count_of eqs.now) (E.limit_of eqs.now) (E.right eqs.now) (E.reads eqs.now) base.now work.old (start ∷ []) run.old.items (pending.old.items ++ var ∷ []) pairs.old.items }
+    requires { Lazy (E.count_of eqs.now) (E.limit_of eqs.now) (E.right eqs.now) (E.reads eqs.now) base.now work.old (start ∷ []) run.old.items (pending.old.items ++ var ∷ []) pairs.old }
     ensures step { steps.new ≡ steps.old + 1 }
-    ensures lazy { OnOk result (Lazy (E.count_of eqs.now) (E.limit_of eqs.now) (E.right eqs.now) (E.reads eqs.now) base.now work.new (start ∷ []) run.new.items pending.new.items pairs.new.items) }
-    ensures cost { OnOk result (length pending.new.items + credit (E.limit_of eqs.now) (base.now, work.old) run.old.items pairs.old.items ≤ length pending.old.items + credit (E.limit_of eqs.now) (base.now, work.new) run.new.items pairs.new.items) }
+    ensures lazy { OnOk result (Lazy (E.count_of eqs.now) (E.limit_of eqs.now) (E.right eqs.now) (E.reads eqs.now) base.now work.new (start ∷ []) run.new.items pending.new.items pairs.new) }
+    ensures cost { OnOk result (length pending.new.items + credit (E.limit_of eqs.now) (base.now, work.old) run.old.items pairs.old ≤ length pending.old.items + credit (E.limit_of eqs.now) (base.now, work.new) run.new.items pairs.new) }
     ensures keeps { OnOk result ((w : ℕ) → HasSet (base.now, work.old) w → HasSet (base.now, work.new) w) }
 {
     let known = run.len();
@@ -146,7 +118,7 @@ pub fn work_through<E: Equations, L: Ledger>(
 {
     let mut run = Vec::new(alloc);
     let mut pending = Vec::new(alloc);
-    let mut pairs = Vec::new(alloc);
+    let mut pairs = Pairs::new(alloc);
     add_one(alloc, base, work, &mut run, start)?;
     pending.push(start)?;
     while let Some(var) = pending.pop() {

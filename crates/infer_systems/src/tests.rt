@@ -1,8 +1,10 @@
-ghost use Rattle.std.specs.Prelude.{◌≡◌, ◌<◌};
+ghost use Rattle.std.specs.Prelude.{◌≡◌, ◌<◌, ◌≤◌, OnOk};
+ghost use Rattle.infer_core.specs.Right.{IsRight};
 
 use crate::rule::Rule::{Both, Copy, More, Nothing, Unknown, Value, When};
-use crate::{Rule, System};
+use crate::{Counted, Rule, System};
 use infer_core::{Equations, Frozen, Plain, Solver, Steps, least_solves};
+use infer_core::tables_cross_threads as cross_threads;
 use infer_sets::{AbsSet, AbsVal};
 use lint_values::{FileId, Memory};
 use std::alloc::Global;
@@ -49,30 +51,6 @@ fn solved_by<L: Ledger>(
     } else {
         1000
     })
-}
-
-// The set of a variable by the solver that keeps what it solved.
-fn demanded_by<L: Ledger>(
-    alloc: Global,
-    system: &System,
-    var: u64,
-    blank: Blank,
-) -> Result<u32, Memory>
-    requires name { blank.name ≡ L.name }
-    requires parts { blank.parts ≡ L.parts }
-    requires some { 0 < blank.parts }
-{
-    if var >= system.var_count() {
-        return Ok(1000);
-    }
-    let mut steps = Steps::<L>::new(blank);
-    let base = Frozen::empty(alloc);
-    let mut solver = Solver::new(alloc, system, &base);
-    Ok(bits_of(solver.demand(var, &mut steps)?))
-}
-
-fn demanded(alloc: Global, system: &System, var: u64) -> Result<u32, Memory> {
-    demanded_by::<Brand>(alloc, system, var, Blank::new(1))
 }
 
 fn solved(alloc: Global, system: &System, var: u64) -> Result<u32, Memory> {
@@ -188,6 +166,50 @@ fn ring(alloc: Global, size: u64, limit: u32) -> Result<System, Memory> {
     Ok(System { rules, limit })
 }
 
+// How many of the variables below `count` have the set with these bits.
+fn matching<E: Equations, L: Ledger>(
+    solver: &mut Solver<E>,
+    count: u64,
+    wanted: u32,
+    steps: &mut Steps<L>,
+) -> Result<u64, Memory>
+    requires { count ≤ E.count_of solver.old.equations }
+    ensures { solver.new.equations ≡ solver.old.equations }
+{
+    let mut matching = 0u64;
+    for var in 0..count {
+        let bits = bits_of(solver.demand(var, steps)?);
+        matching = matching.saturating_add((bits == wanted) as u64);
+    }
+    Ok(matching)
+}
+
+// Each variable is demanded, and then each again: how many have the set with these bits, and the evaluations so far.
+fn demanded_by<L: Ledger>(
+    alloc: Global,
+    system: &System,
+    wanted: u32,
+    blank: Blank,
+) -> Result<[u64; 4], Memory>
+    requires name { blank.name ≡ L.name }
+    requires parts { blank.parts ≡ L.parts }
+    requires some { 0 < blank.parts }
+{
+    let mut steps = Steps::<L>::new(blank);
+    let counted = Counted::new(system);
+    let count = counted.var_count();
+    let base = Frozen::empty(alloc);
+    let mut solver = Solver::new(alloc, &counted, &base);
+    let first = matching(&mut solver, count, wanted, &mut steps)?;
+    let taken = counted.evaluations();
+    let second = matching(&mut solver, count, wanted, &mut steps)?;
+    Ok([first, taken, second, counted.evaluations()])
+}
+
+fn demanded(alloc: Global, system: &System, wanted: u32) -> Result<[u64; 4], Memory> {
+    demanded_by::<Brand>(alloc, system, wanted, Blank::new(1))
+}
+
 #[test]
 fn a_ring_has_its_one_value(rt: HostRuntime) -> Result<(), Fail> {
     let alloc = rt.alloc();
@@ -195,9 +217,173 @@ fn a_ring_has_its_one_value(rt: HostRuntime) -> Result<(), Fail> {
     assert_eq!(rt; solved(alloc, &short, 49)?, 32);
     let system = ring(alloc, 1000, 100)?;
     least_solves(&system);
-    assert_eq!(rt; system.var_count(), 1000);
-    for var in [0, 1, 500, 999] {
-        assert_eq!(rt; demanded(alloc, &system, var)?, 32, "{var}");
+    let [first, taken, second, again] = demanded(alloc, &system, 32)?;
+    assert_eq!(rt; first, 1000);
+    assert_eq!(rt; second, 1000);
+    assert!(rt; taken <= 103000, "{taken}");
+    assert_eq!(rt; again, taken);
+    Ok(())
+}
+
+// How many variables have one set by the plain solver and, each time, by one solver that is asked for each of them twice.
+fn alike<E: Equations, L: Ledger>(
+    alloc: Global,
+    eqs: &E,
+    solver: &mut Solver<E>,
+    count: u64,
+    steps: &mut Steps<L>,
+) -> Result<u64, Memory>
+    requires same { solver.old.equations ≡ eqs.now }
+    requires in_range { count ≤ E.count_of eqs.now }
+{
+    let mut alike = 0u64;
+    for var in 0..count {
+        let plain = bits_of(&Plain::solve(alloc, eqs, var, steps)?);
+        let first = bits_of(solver.demand(var, steps)?);
+        let second = bits_of(solver.demand(var, steps)?);
+        alike = alike.saturating_add((plain == first && plain == second) as u64);
+    }
+    Ok(alike)
+}
+
+fn alike_by<L: Ledger>(alloc: Global, system: &System, blank: Blank) -> Result<u64, Memory>
+    requires name { blank.name ≡ L.name }
+    requires parts { blank.parts ≡ L.parts }
+    requires some { 0 < blank.parts }
+{
+    let mut steps = Steps::<L>::new(blank);
+    let base = Frozen::empty(alloc);
+    let mut solver = Solver::new(alloc, system, &base);
+    alike(alloc, system, &mut solver, system.var_count(), &mut steps)
+}
+
+fn all_alike(alloc: Global, system: &System) -> Result<u64, Memory> {
+    alike_by::<Brand>(alloc, system, Blank::new(1))
+}
+
+// A number below the bound, from a seed.
+fn random(seed: &mut u64, below: u64) -> u64
+    requires { 0 < below }
+    ensures { result < below }
+{
+    *seed = seed
+        .wrapping_mul(6364136223846793005)
+        .wrapping_add(1442695040888963407);
+    (*seed >> 33) % below
+}
+
+fn random_rule(seed: &mut u64) -> Rule {
+    let var = random(seed, 16);
+    let other = random(seed, 16);
+    let number = random(seed, 7) as u32;
+    match random(seed, 10) {
+        0 => Nothing,
+        1 => Unknown,
+        2 => Value(number),
+        3 | 4 => Copy(var),
+        5 | 6 => More(var, number),
+        7 | 8 => Both(var, other),
+        _ => When(var, other),
+    }
+}
+
+fn random_system(alloc: Global, seed: &mut u64) -> Result<System, Memory> {
+    let mut rules = Vec::new(alloc);
+    for _ in 0..random(seed, 12) + 1 {
+        rules.push(random_rule(seed))?;
+    }
+    Ok(System {
+        rules,
+        limit: random(seed, 5) as u32,
+    })
+}
+
+#[test]
+fn the_solvers_agree_on_systems_from_a_seed(rt: HostRuntime) -> Result<(), Fail> {
+    let alloc = rt.alloc();
+    let mut seed = 1u64;
+    for number in 0..200u32 {
+        let system = random_system(alloc, &mut seed)?;
+        assert_eq!(rt; all_alike(alloc, &system)?, system.var_count(), "{number}");
+    }
+    Ok(())
+}
+
+// Two solvers over one table each solve a variable, and the table takes over what both solved.
+fn round<E: Equations, L: Ledger>(
+    alloc: Global,
+    eqs: &E,
+    table: &mut Frozen,
+    first: u64,
+    second: u64,
+    steps: &mut Steps<L>,
+) -> Result<(), Memory>
+    requires right { IsRight (E.count_of eqs.now) (E.limit_of eqs.now) (E.right eqs.now) table.old.sets }
+    requires first { first < E.count_of eqs.now }
+    requires second { second < E.count_of eqs.now }
+    ensures { OnOk result (IsRight (E.count_of eqs.now) (E.limit_of eqs.now) (E.right eqs.now) table.new.sets) }
+{
+    let mut one = Solver::new(alloc, eqs, table);
+    let _ = one.demand(first, steps)?;
+    let mut two = Solver::new(alloc, eqs, table);
+    let _ = two.demand(second, steps)?;
+    let solved = one.finish()?;
+    let also = two.finish()?;
+    table.merge(solved)?;
+    table.merge(also)?;
+    Ok(())
+}
+
+// After a round and once more the same round: the variables, and those solved again; the evaluations of both rounds.
+fn rounds_by<L: Ledger>(
+    alloc: Global,
+    system: &System,
+    first: u64,
+    second: u64,
+    blank: Blank,
+) -> Result<[u64; 4], Memory>
+    requires name { blank.name ≡ L.name }
+    requires parts { blank.parts ≡ L.parts }
+    requires some { 0 < blank.parts }
+{
+    let mut steps = Steps::<L>::new(blank);
+    let counted = Counted::new(system);
+    let count = counted.var_count();
+    if first >= count || second >= count {
+        return Ok([1000; 4]);
+    }
+    let mut table = Frozen::empty(alloc);
+    round(alloc, &counted, &mut table, first, second, &mut steps)?;
+    let taken = counted.evaluations();
+    round(alloc, &counted, &mut table, first, second, &mut steps)?;
+    Ok([table.count(), table.again(), taken, counted.evaluations()])
+}
+
+fn rounds(alloc: Global, rules: [Rule; 4], first: u64, second: u64) -> Result<[u64; 4], Memory> {
+    let rules = Vec::from_array(alloc, rules)?;
+    rounds_by::<Brand>(
+        alloc,
+        &System { rules, limit: 2 },
+        first,
+        second,
+        Blank::new(1),
+    )
+}
+
+// Rules, the two variables that two solvers are asked for, and what `rounds_by` gives.
+const ROUNDS: [([Rule; 4], u64, u64, [u64; 4]); 5] = [
+    ([Copy(1), Copy(2), Value(2), Copy(2)], 0, 3, [4, 1, 8, 8]),
+    ([Copy(1), Copy(2), Value(2), Copy(2)], 0, 0, [3, 3, 10, 10]),
+    ([Copy(1), Copy(2), Value(2), Copy(2)], 3, 1, [3, 1, 6, 6]),
+    ([Value(0), Value(1), Nothing, Nothing], 0, 1, [2, 0, 2, 2]),
+    ([Nothing, Unknown, Nothing, Nothing], 2, 2, [1, 1, 2, 2]),
+];
+
+#[test]
+fn tables_take_over_what_solvers_solved(rt: HostRuntime) -> Result<(), Fail> {
+    let alloc = rt.alloc();
+    for (rules, first, second, wanted) in ROUNDS {
+        assert_eq!(rt; rounds(alloc, rules, first, second)?, wanted, "{rules:?} {first} {second}");
     }
     Ok(())
 }
@@ -206,14 +392,17 @@ fn a_ring_has_its_one_value(rt: HostRuntime) -> Result<(), Fail> {
 fn an_empty_table_has_no_set(rt: HostRuntime) -> Result<(), Fail> {
     let base = Frozen::empty(rt.alloc());
     assert!(rt; base.get(0).is_none());
+    assert_eq!(rt; base.count(), 0);
+    assert_eq!(rt; base.again(), 0);
     Ok(())
 }
 
-// What may be lent to a thread and handed to one.
-fn crosses_threads<T: Send + Sync>(_value: &T) {}
-
 #[test]
 fn tables_cross_threads(rt: HostRuntime) -> Result<(), Fail> {
-    crosses_threads(&Frozen::empty(rt.alloc()));
+    let alloc = rt.alloc();
+    let system = ring(alloc, 3, 1)?;
+    let base = Frozen::empty(alloc);
+    let overlay = Solver::new(alloc, &system, &base).finish()?;
+    cross_threads(&base, &overlay);
     Ok(())
 }

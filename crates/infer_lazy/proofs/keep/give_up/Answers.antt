@@ -1,4 +1,4 @@
-use Rattle.std.proofs.Common.{cond, ◌∷◌, drop, get_or, sym, ◌∙◌, ap, ◌+◌}
+use Rattle.std.proofs.Common.{cond, drop, get_or, sym, ◌∙◌, ap, ◌+◌}
 use Rattle.std.specs.Prelude.{None, nat_eq}
 use Rattle.std.specs.List.{list_any}
 use Rattle.std.specs.FinMap.{get}

@@ -1,8 +1,8 @@
-use Rattle.std.proofs.Common.{◌≡◌, ℕ, ◌≤◌, true, false, cond, length, get_or, refl, sym, ◌∙◌, ap, subst, arith}
+use Rattle.std.proofs.Common.{◌≡◌, ℕ, ◌≤◌, cond, length, get_or, refl, sym, ◌∙◌, ap, subst, arith}
 use Rattle.std.specs.Prelude.{None, nat_eq}
 use Rattle.std.specs.List.{list_any}
 use Rattle.std.specs.FinMap.{get}
-use Rattle.infer_lazy.proofs.Keeping.{Moved, moved-none, moved-more, moved-all, moved-back, err_of, ok_of}
+use Rattle.infer_lazy.proofs.Keeping.{Moved, listed_at, moved-none, moved-more, moved-all, moved-back, err_of, ok_of}
 use Rattle.infer_lazy.proofs.keep.keep_all.Goals as goal
 
 pub loop-var-init : goal.loop-var-init
@@ -12,7 +12,7 @@ pub loop-var-preserved : goal.loop-var-preserved
 loop-var-preserved c =
     let ok = sym c.is_err.ensures.value ∙ c.if-is_err.false in
     moved-more c.args.work.now c.args.own.now c.args.run.now c.loop-var.var-index (get_or c.args.run.now c.loop-var.var-index 0) c.loop-var.work c.loop-var.own _ _
-    c.loop-var.invariant refl (ok_of c.keep_one.result _ ok c.keep_one.ensures.kept) c.keep_one.ensures.rest
+    c.loop-var.invariant (c.requires.apart _ (listed_at c.args.run.now c.loop-var.var-index c.loop-var-test.true)) refl (ok_of c.keep_one.result _ ok c.keep_one.ensures.kept) c.keep_one.ensures.rest
 
 pub returns-then-is_err-clause-err : goal.returns-then-is_err-clause-err
 returns-then-is_err-clause-err c =

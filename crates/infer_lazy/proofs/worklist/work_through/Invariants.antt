@@ -1,4 +1,4 @@
-use Rattle.std.proofs.Common.{ℕ, ◌-◌, ◌*◌, ◌+◌, ◌≤◌, ◌∷◌, [], length}
+use Rattle.std.proofs.Common.{◌-◌, ◌+◌, ◌≤◌, ◌∷◌, [], length}
 use Rattle.infer_reached.specs.InProgress.{HasSet}
 use Rattle.infer_lazy.specs.Worklist.{Lazy, credit}
 use Rattle.infer_lazy.proofs.Steps.{most_steps}
@@ -6,9 +6,9 @@ use Rattle.infer_lazy.proofs.worklist.work_through.Given as goal
 
 abbrev pub invariant-loop-var : goal.invariant-loop-var
 invariant-loop-var g l = record {
-  lazy : Lazy (g.E.Equations.count_of l.fn.eqs) (g.E.Equations.limit_of l.fn.eqs) (g.E.Equations.right l.fn.eqs) (g.E.Equations.reads l.fn.eqs) l.fn.base l.work (l.fn.start ∷ []) l.run.items l.pending.items l.pairs.items;
+  lazy : Lazy (g.E.Equations.count_of l.fn.eqs) (g.E.Equations.limit_of l.fn.eqs) (g.E.Equations.right l.fn.eqs) (g.E.Equations.reads l.fn.eqs) l.fn.base l.work (l.fn.start ∷ []) l.run.items l.pending.items l.pairs;
   has : HasSet (l.fn.base, l.work) l.fn.start;
-  cost : l.steps + length l.pending.items ≤ l.fn.steps + credit (g.E.Equations.limit_of l.fn.eqs) (l.fn.base, l.work) l.run.items l.pairs.items;
+  cost : l.steps + length l.pending.items ≤ l.fn.steps + credit (g.E.Equations.limit_of l.fn.eqs) (l.fn.base, l.work) l.run.items l.pairs;
 }
 
 abbrev pub decreases-loop-var : goal.decreases-loop-var

@@ -1,0 +1,37 @@
+// What one solver solved.
+ghost use Rattle.std.specs.Prelude.{◌≡◌};
+
+use infer_equations::Table;
+use std::marker::Model;
+
+/// The sets that a solver solved, by variable, which a frozen table takes over by `Frozen::merge`. Contracts see the
+/// finite map from variables to sets. It is made by `Solver::finish` alone.
+#[derive(Debug, Drop)]
+pub struct Overlay {
+    table: Table,
+}
+
+impl Model for Overlay {
+    ghost use Rattle.infer_equations.specs.Assignment.{Map};
+    ghost use Rattle.infer_equations.specs.Seen.{map_code};
+
+    ghost Value = { Map };
+
+    ghost coded = { map_code };
+
+    ghost view = { λ o. o.table };
+}
+
+impl Overlay {
+    pub(crate) fn new(table: Table) -> Overlay
+        ensures { result ≡ table }
+    {
+        Overlay { table }
+    }
+
+    pub(crate) fn into_table(self) -> Table
+        ensures { result ≡ self }
+    {
+        self.table
+    }
+}

@@ -1,0 +1,56 @@
+// Who read whom.
+ghost use Rattle.std.specs.Prelude.{◌≡◌, ◌++◌, [], OnOk};
+ghost use Rattle.std.specs.BTreeSet.{insert_key};
+ghost use Rattle.infer_lazy.specs.Pairs.{pair_cmp, readers};
+
+use lint_values::Memory;
+use std::alloc::Global;
+use std::collections::BTreeSet;
+use std::marker::Model;
+
+/// Pairs of a variable that was read and its reader, each once. The readers of a variable stand together, so that they
+/// are found without the other pairs. Contracts see the list of the pairs, which ascends.
+#[derive(Drop)]
+pub struct Pairs {
+    pairs: BTreeSet<(u64, u64)>,
+}
+
+impl Model for Pairs {
+    ghost use Rattle.std.specs.Prelude.{List, ℕ, ◌<◌, ◌^◌};
+    ghost use Rattle.std.specs.List.{All};
+
+    ghost Value = { List (ℕ × ℕ) };
+
+    ghost view = { λ p. p.pairs.keys };
+
+    ghost invariant = { λ p. All (λ q. q.1 < 2 ^ 64) p.pairs.keys };
+}
+
+impl Pairs {
+    /// No pair.
+    pub fn new(alloc: Global) -> Pairs
+        ensures { result ≡ [] }
+    {
+        Pairs {
+            pairs: BTreeSet::new(alloc),
+        }
+    }
+
+    /// Adds a pair, unless it is there.
+    pub fn add(&mut self, read: u64, reader: u64) -> Result<(), Memory>
+        ensures { OnOk result (self.new ≡ insert_key pair_cmp self.old (read, reader)) }
+    {
+        self.pairs.insert((read, reader))?;
+        Ok(())
+    }
+
+    /// Who read the variable waits.
+    pub fn wake(&self, var: u64, pending: &mut Vec<u64>) -> Result<(), Memory>
+        ensures { OnOk result (pending.new.items ≡ pending.old.items ++ readers var self.now) }
+    {
+        for pair in self.pairs.range((var, 0)..=(var, u64::MAX)) {
+            pending.push(pair.1)?;
+        }
+        Ok(())
+    }
+}

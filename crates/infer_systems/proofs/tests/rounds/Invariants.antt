@@ -1,0 +1,4 @@
+use Rattle.infer_systems.proofs.tests.rounds.Given as goal
+
+abbrev pub ghosts-rounds_by : goal.ghosts-rounds_by
+ghosts-rounds_by a = record { name = a.blank.name; parts = a.blank.parts }
