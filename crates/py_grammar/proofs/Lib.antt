@@ -24,6 +24,7 @@ pub mod Rows4
 pub mod Rows5
 pub mod Rows6
 pub mod Rows7
+pub mod ShapeBasics
 pub mod Statements
 pub mod TreeRows1
 pub mod TreeRows2

@@ -9,6 +9,7 @@ pub mod Statements
 pub mod Headers
 pub mod Weights
 pub mod Lines
+pub mod HeaderParts
 pub mod Firsts
 pub mod Reading
 pub mod ReadingPatterns
