@@ -25,6 +25,7 @@ pub mod Rows5
 pub mod Rows6
 pub mod Rows7
 pub mod ShapeBasics
+pub mod ShapeTargets
 pub mod Statements
 pub mod TreeRows1
 pub mod TreeRows2
