@@ -25,6 +25,8 @@ pub mod Rows5
 pub mod Rows6
 pub mod Rows7
 pub mod ShapeBasics
+pub mod ShapeBrackets
+pub mod ShapeParentheses
 pub mod ShapeTargets
 pub mod Statements
 pub mod TreeRows1

@@ -3,7 +3,7 @@ use Rattle.std.proofs.Common.{◌≡◌, ℕ, Bool, true, false, ◌&&◌, List,
 use Rattle.tree_nodes.specs.declared.kind.Kind.{Kind}
 use Rattle.tree_nodes.specs.declared.kind.Kind.TheVariants as kinds
 use Rattle.tree_nodes.specs.Trees.{Node, Tree, pack}
-use Rattle.tree_nodes.specs.Sorts.{Sort, sort_of, is_named, IsOf, AreOf, only, expression, value}
+use Rattle.tree_nodes.specs.Sorts.{Sort, sort_of, is_named, IsOf, AreOf, only, other_expression, expression, value}
 use Rattle.tree_nodes.specs.Shapes.{Part, a_row_of_pairs, Fits, FitsOneOf, one, maybe, many, some, shape, before_each}
 use Rattle.tree_nodes.specs.Shaped.{kinds_of, HasShape, AreShaped}
 use Rattle.py_language.specs.Languages.{Language, Then, Either, Maybe, Many, Some, Skipped, Made, Where, Bracketed, whole, row}
@@ -41,6 +41,10 @@ sorts_say test (sort ∷ sorts) kind h e = go (test sort) refl e (λ there both.
 
 pub expression_is_value : (kind : Kind) → IsOf expression kind → IsOf value kind
 expression_is_value kind h = inr h
+
+-- a kind that has no sort of its own among expressions
+pub other : (kind : Kind) → sort_of kind ≡ other_expression → IsOf expression kind
+other kind e = inr (inr (inr (inr (inr (inl e)))))
 
 -- ---- a token, and then more
 
@@ -118,3 +122,6 @@ form_over parts over A made = record {
   shaped = λ ts out h. rw h.trees (made ts h.parts h.spelled (A.fits ts h.parts h.spelled) (A.shaped ts h.parts h.spelled)).0;
   fits = λ ts out h. rw h.trees (made ts h.parts h.spelled (A.fits ts h.parts h.spelled) (A.shaped ts h.parts h.spelled)).1;
 }
+
+pub forms_where : {forms : List (List Part)} {a : Form} (test : List Tree → Bool) → FormsOneOf forms a → FormsOneOf forms (Where test a)
+forms_where test A = record { shaped = λ ts out h. A.shaped ts out h.0; fits = λ ts out h. A.fits ts out h.0 }
