@@ -215,10 +215,10 @@ behind_double_star = many (keyword_argument ∷ double_star_argument ∷ [])
 abbrev behind_keyword : List Part
 behind_keyword = many (keyword_argument ∷ star_argument ∷ []) ++ behind_double_star
 
-row_none : (sorts : List Sort) (parts : List Part) (ks : List Kind) → Fits parts ks → Fits (a_row sorts ∷ parts) ks
+pub row_none : (sorts : List Sort) (parts : List Part) (ks : List Kind) → Fits parts ks → Fits (a_row sorts ∷ parts) ks
 row_none sorts parts ks h = ([], ks, refl, tt, h)
 
-row_more : (sorts : List Sort) (parts : List Part) (k : Kind) (ks : List Kind) → IsOf sorts k → Fits (a_row sorts ∷ parts) ks → Fits (a_row sorts ∷ parts) (k ∷ ks)
+pub row_more : (sorts : List Sort) (parts : List Part) (k : Kind) (ks : List Kind) → IsOf sorts k → Fits (a_row sorts ∷ parts) ks → Fits (a_row sorts ∷ parts) (k ∷ ks)
 row_more sorts parts k ks of h = let (front, back, e, each, fit) = h in (k ∷ front, back, ap (λ (xs : List Kind). k ∷ xs) e, (of, each), fit)
 
 stars_last : (kind : Kind) (u : List Tree) → (in_order_from (Some 2) u ≡ true → Fits behind_double_star (kinds_of (pack u))) → in_order_from (next_place 2 kind) u ≡ true → Fits behind_double_star (kind ∷ kinds_of (pack u))
