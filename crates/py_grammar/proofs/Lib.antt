@@ -26,6 +26,7 @@ pub mod Rows6
 pub mod Rows7
 pub mod ShapeBasics
 pub mod ShapeBrackets
+pub mod ShapeExpressions
 pub mod ShapeParameters
 pub mod ShapeParentheses
 pub mod ShapeTargets

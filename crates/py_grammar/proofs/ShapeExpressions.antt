@@ -1,0 +1,148 @@
+-- Each form of an expression spells trees in shape, of the sorts that stand in its place.
+use Rattle.std.proofs.Common.{◌≡◌, ℕ, ◌||◌, Bool, true, false, if◌then◌else◌, List, [], ◌∷◌, ◌++◌, inl, inr, refl, sym, ap, subst, ◌∙◌, is_some}
+use Rattle.std.proofs.lemmas.List.{append-nil}
+use Rattle.tree_nodes.specs.declared.kind.Kind.{Kind}
+use Rattle.tree_nodes.specs.declared.kind.Kind.TheVariants as kinds
+use Rattle.tree_nodes.specs.Trees.{Node, Tree, pack}
+use Rattle.tree_nodes.specs.Sorts.{Sort, starred, constant, name_read, other_expression, star_argument, keyword_argument, double_star_argument, slice, slice_colon, slices, dict_item, dict_unpack, comprehension_clause, field, positional_only_mark, double_star_parameter, parameter, sort_of, is_named, IsOf, AreOf, only, expression, value, target, any_target}
+use Rattle.tree_nodes.specs.Shapes.{Part, Fits, FitsOneOf, one, maybe, many, some, shape, arguments, subscripts, behind_parameters}
+use Rattle.tree_nodes.specs.Shaped.{kinds_of, HasShape, AreShaped}
+use Rattle.py_language.specs.Sets.{mem}
+use Rattle.py_language.specs.Languages.{Then, Nothing, Either, Maybe, Many, Some as OneOrMore, Made, Where, Bracketed, Stepwise, whole}
+use Rattle.py_language.specs.Forms.{Forms, FormsOneOf, AreOfSorts}
+use Rattle.py_language.proofs.KindLaws.{row_fits, fits_row, each_before}
+use Rattle.py_language.proofs.SortLaws.{form_row_of, sorts_row, sorts_single, sorts_possible, sorts_wider, sorts_nothing, sorts_skipped, sorts_then, sorts_either, sorts_maybe, sorts_many, sorts_some, sorts_where, sorts_separated, sorts_bracketed}
+use Rattle.py_language.proofs.FormLaws.{form_as, form_wider, form_nothing, form_skipped, form_shown, form_then, form_either, form_maybe, form_many, form_some, form_pairs, form_bracketed, form_where, form_steps, form_made, form_node, form_whole, forms_sole, forms_then, forms_behind, forms_maybe}
+use Rattle.py_grammar.specs.declared.symbol.Symbol.{Symbol}
+use Rattle.py_grammar.specs.declared.symbol.Symbol.TheVariants as s
+use Rattle.py_grammar.specs.declared.entry.Entry.{Entry}
+use Rattle.py_grammar.specs.declared.entry.Entry.TheVariants as e
+use Rattle.py_grammar.specs.Terminals.{Terminal, Form, code}
+use Rattle.py_grammar.specs.Words.{name, number, plain_string, byte_string, format_string, format_string_end, field_open, field_close, simple_atom, constant_word, and_word, async_word, await_word, else_word, for_word, from_word, if_word, in_word, is_word, lambda_word, not_word, or_word, yield_word, comma, colon, dot, assign, walrus, star, double_star, slash, bar, caret, ampersand, sign, shift_operator, sum_operator, product_operator, comparison_operator, left_paren, right_paren, left_bracket, right_bracket, left_brace, right_brace}
+use Rattle.py_grammar.specs.Nodes.{spanning, called, first_text, second_text, last_text, strings_text, atom_leaf, operator_leaf, plain_leaf, named_leaf, Token, Leaf, As, Called, Row, Commas, CommaRest, Tupled, InParentheses, InBrackets, InBraces}
+use Rattle.py_grammar.specs.Tests.{in_order, parameters_in_order}
+use Rattle.py_grammar.specs.Expressions.{in_parentheses, in_brackets, in_braces, are_alike, call_arguments, are_arguments, string_node, sign_node, star_parameter, keyword_only_behind_star, Target, Star, Named, Element, SxItem, Sx, Yield, TargetItem, Targets, ForClause, Clause, Clauses, Parenthesized, ListDisplay, ItemOrNamed, Unpacked, BraceEntry, BraceDisplay, StarredArgument, PlainArgument, Argument, Arguments, CallArguments, SliceRest, Slice, StarredSlice, Slices, Trailed, FieldExpression, InnerField, Field, StringPart, Strings, Atom, Primary, Awaited, Power, Factor, Term, Arith, Shift, BitAnd, BitXor, BitOr, ComparisonSign, Comparison, Not, And, Or, LambdaParameter, LambdaParameters, Lambda, Test}
+use Rattle.py_grammar.specs.HeaderParts.{sorts_of}
+use Rattle.py_grammar.proofs.ShapeBasics.{IsA, never, expression_is_value, other, behind, a_node, a_named_node, operands, operands_with, with_commas, behind_comma, first_and_rest, form_within, forms_same, forms_as, form_over}
+use Rattle.py_grammar.proofs.ShapeTargets.{a_target}
+use Rattle.py_grammar.proofs.ShapeBrackets.{held, held_row, held_in, held_maybe, first_and_more, a_list, braced, a_brace, argument, plain_argument, order_fits, are_call_arguments}
+use Rattle.py_grammar.proofs.ShapeParentheses.{IsLone, lone_either, lone_maybe, lone_of, lone_first, lone_with_comma, a_parenthesis}
+use Rattle.py_grammar.proofs.ShapeParameters.{parameters, are_parameters}
+
+module _ (L : Entry → Form) (known : (entry : Entry) → IsA (sorts_of entry) (L entry)) where
+  -- ---- stars, names with `:=`, elements, yields
+
+  pub is_star : IsA (only starred) (Star L)
+  unfolding Star shape sort_of is_named
+  is_star = a_node kinds.Starred (only starred) (behind star (known e.BitOr)) (λ ks h. inl h) refl (inl refl)
+
+  pub is_walrus : IsA expression (Called kinds.NamedExpression first_text (Then (Token name) (Then (Token walrus) (L e.Test))))
+  unfolding shape sort_of is_named
+  is_walrus = a_named_node kinds.NamedExpression first_text expression (behind name (behind walrus (known e.Test))) (λ ks h. inl h) refl (other kinds.NamedExpression refl)
+
+  pub is_named_expression : IsA expression (Named L)
+  unfolding Named
+  is_named_expression = form_either is_walrus (known e.Test)
+
+  pub is_starred_value : IsA value (Star L)
+  is_starred_value = form_wider (λ k h. elim h [ inl g ↦ inl g | inr g ↦ absurd g ]) is_star
+
+  pub is_element : IsA value (Element L)
+  unfolding Element
+  is_element = form_either is_starred_value (form_wider expression_is_value is_named_expression)
+
+  pub is_sx_item : IsA value (SxItem L)
+  unfolding SxItem
+  is_sx_item = form_either is_starred_value (form_wider expression_is_value (known e.Test))
+
+  pub is_sx : IsA value (Sx L)
+  unfolding Sx shape sort_of is_named
+  is_sx = form_either is_sx_item (a_node kinds.Tuple value (first_and_rest value (sorts_single is_sx_item) (sorts_single is_sx_item)) (λ ks h. inl h) refl (inr (other kinds.Tuple refl)))
+
+  pub is_yield : IsA expression (Yield L)
+  unfolding Yield shape sort_of is_named
+  is_yield =
+      form_either (a_node kinds.YieldFrom expression (behind yield_word (behind from_word (known e.Test))) (λ ks h. inl h) refl (other kinds.YieldFrom refl))
+      (a_node kinds.Yield expression (behind yield_word (form_maybe is_sx)) (λ ks h. inl h) refl (other kinds.Yield refl))
+
+  -- ---- targets and clauses
+
+  pub is_target_item : IsA value (TargetItem L)
+  unfolding TargetItem
+  is_target_item = form_either is_starred_value (form_wider expression_is_value (known e.BitOr))
+
+  pub is_targets : IsA any_target (Targets L)
+  unfolding Targets shape sort_of is_named
+  is_targets =
+      a_target value
+      (form_either is_target_item (a_node kinds.Tuple value (first_and_rest value (sorts_single is_target_item) (sorts_single is_target_item)) (λ ks h. inl h) refl (inr (other kinds.Tuple refl))))
+
+  is_for_clause : Forms (one any_target ++ one expression ++ many expression) (ForClause L)
+  unfolding ForClause
+  is_for_clause = behind for_word (form_then is_targets (behind in_word (form_then (known e.Or) (form_many (sorts_single (behind if_word (known e.Or)))))))
+
+  is_clause : IsA (only comprehension_clause) (Clause L)
+  unfolding Clause shape sort_of is_named
+  is_clause =
+      form_either (a_node kinds.AsyncComprehensionFor (only comprehension_clause) (behind async_word is_for_clause) (λ ks h. inl h) refl (inl refl))
+      (a_node kinds.ComprehensionFor (only comprehension_clause) is_for_clause (λ ks h. inl h) refl (inl refl))
+
+  pub are_clauses : Forms (some (only comprehension_clause)) (Clauses L)
+  unfolding Clauses
+  are_clauses = form_some is_clause
+
+  -- ---- displays
+
+  -- what stands behind the comma of a first element
+  more_elements : AreOfSorts value (CommaRest (Element L))
+  more_elements = behind_comma value (sorts_single is_element)
+
+  named_and_more : FormsOneOf (held value expression) (Then (Named L) (Maybe (Either (Clauses L) (CommaRest (Element L)))))
+  named_and_more = first_and_more value expression is_named_expression expression_is_value are_clauses more_elements
+
+  pub is_parenthesized : IsA expression (Parenthesized L)
+  unfolding Parenthesized
+  is_parenthesized = a_parenthesis (held_maybe value expression (forms_same yields (forms_same stars named_and_more)))
+      (lone_maybe expression (lone_either expression (lone_of expression is_yield) (lone_either expression (lone_with_comma (only starred) value expression is_star (with_commas value is_element)) (lone_first expression is_named_expression))))
+    where
+      yields : FormsOneOf (held value expression) (Yield L)
+      yields = held_row value expression (sorts_wider expression_is_value (sorts_single is_yield))
+
+      stars : FormsOneOf (held value expression) (Then (Star L) (CommaRest (Element L)))
+      stars = held_row value expression (sorts_then value (sorts_single is_starred_value) more_elements)
+
+  pub is_list_display : IsA expression (ListDisplay L)
+  unfolding ListDisplay
+  is_list_display = a_list (held_in value expression left_bracket right_bracket (held_maybe value expression (forms_same stars named_and_more)))
+    where
+      stars : FormsOneOf (held value expression) (Then (Star L) (Maybe (CommaRest (Element L))))
+      stars = held_row value expression (sorts_then value (sorts_single is_starred_value) (sorts_maybe value more_elements))
+
+  is_item_or_named : IsA (dict_item ∷ expression) (ItemOrNamed L)
+  unfolding ItemOrNamed shape sort_of is_named
+  is_item_or_named =
+      form_either (form_wider (λ k h. inr h) is_walrus)
+      (form_either (form_wider (λ k h. inr h) (known e.Test)) (a_node kinds.DictItem (dict_item ∷ expression) (form_then (known e.Test) (behind colon (known e.Test))) (λ ks h. inl h) refl (inl refl)))
+
+  is_unpacked : IsA braced (Unpacked L)
+  unfolding Unpacked shape sort_of is_named
+  is_unpacked = form_either (a_node kinds.DictUnpack braced (behind double_star (known e.BitOr)) (λ ks h. inl h) refl (inr (inl refl))) (form_wider (λ k h. inr (inr h)) is_starred_value)
+
+  item_is_braced : (kind : Kind) → IsOf (dict_item ∷ expression) kind → IsOf braced kind
+  item_is_braced kind h = elim h [ inl g ↦ inl g | inr g ↦ inr (inr (inr g)) ]
+
+  is_brace_entry : IsA braced (BraceEntry L)
+  unfolding BraceEntry
+  is_brace_entry = form_either is_unpacked (form_wider item_is_braced is_item_or_named)
+
+  pub is_brace_display : IsA expression (BraceDisplay L)
+  unfolding BraceDisplay
+  is_brace_display =
+      a_brace
+      (held_in braced (dict_item ∷ expression) left_brace right_brace
+      (held_maybe braced (dict_item ∷ expression)
+      (forms_same (held_row braced (dict_item ∷ expression) (sorts_then braced (sorts_single is_unpacked) (sorts_maybe braced more)))
+      (first_and_more braced (dict_item ∷ expression) is_item_or_named item_is_braced are_clauses more))))
+    where
+      more : AreOfSorts braced (CommaRest (BraceEntry L))
+      more = behind_comma braced (sorts_single is_brace_entry)
