@@ -27,6 +27,7 @@ pub mod Rows7
 pub mod ShapeBasics
 pub mod ShapeBrackets
 pub mod ShapeExpressions
+pub mod ShapeLeaves
 pub mod ShapeParameters
 pub mod ShapeParentheses
 pub mod ShapeTargets
