@@ -28,8 +28,10 @@ pub mod ShapeBasics
 pub mod ShapeBrackets
 pub mod ShapeExpressions
 pub mod ShapeLeaves
+pub mod ShapeOperators
 pub mod ShapeParameters
 pub mod ShapeParentheses
+pub mod ShapeStrings
 pub mod ShapeTargets
 pub mod Statements
 pub mod TreeRows1

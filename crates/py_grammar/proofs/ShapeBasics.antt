@@ -1,5 +1,6 @@
 -- The forms of what the grammar's forms are built of: tokens, nodes, rows, items with commas, and what brackets hold.
 use Rattle.std.proofs.Common.{◌≡◌, ℕ, Bool, true, false, ◌&&◌, List, [], ◌∷◌, ◌++◌, inl, inr, refl, sym, ap, subst, ◌∙◌}
+use Rattle.std.proofs.lemmas.List.{append-nil}
 use Rattle.tree_nodes.specs.declared.kind.Kind.{Kind}
 use Rattle.tree_nodes.specs.declared.kind.Kind.TheVariants as kinds
 use Rattle.tree_nodes.specs.Trees.{Node, Tree, pack}
@@ -8,9 +9,9 @@ use Rattle.tree_nodes.specs.Shapes.{Part, a_row_of_pairs, Fits, FitsOneOf, one, 
 use Rattle.tree_nodes.specs.Shaped.{kinds_of, HasShape, AreShaped}
 use Rattle.py_language.specs.Languages.{Language, Then, Either, Maybe, Many, Some, Skipped, Made, Where, Bracketed, whole, row}
 use Rattle.py_language.specs.Forms.{Forms, FormsOneOf, AreOfSorts}
-use Rattle.py_language.proofs.KindLaws.{two_operands, two_between}
+use Rattle.py_language.proofs.KindLaws.{fits_append, two_operands, two_between}
 use Rattle.py_language.proofs.SortLaws.{form_row_of, sorts_row, sorts_single, sorts_possible, sorts_wider, sorts_skipped, sorts_then, sorts_either, sorts_maybe, sorts_many, sorts_some, sorts_separated}
-use Rattle.py_language.proofs.FormLaws.{form_as, form_wider, form_skipped, form_then, form_either, form_many, form_pairs, form_separated, form_joined, form_bracketed, form_node, form_row, forms_then, forms_behind}
+use Rattle.py_language.proofs.FormLaws.{form_as, form_wider, form_skipped, form_then, form_either, form_many, form_pairs, form_separated, form_joined, form_bracketed, form_node, form_whole, form_row, forms_then, forms_behind}
 use Rattle.py_grammar.specs.Terminals.{Terminal, Form, code}
 use Rattle.py_grammar.specs.Words.{comma}
 use Rattle.py_grammar.specs.Nodes.{spanning, called, Token, As, Called, Row, Joined, Commas, CommaRest, Tupled}
@@ -125,3 +126,33 @@ form_over parts over A made = record {
 
 pub forms_where : {forms : List (List Part)} {a : Form} (test : List Tree → Bool) → FormsOneOf forms a → FormsOneOf forms (Where test a)
 forms_where test A = record { shaped = λ ts out h. A.shaped ts out h.0; fits = λ ts out h. A.fits ts out h.0 }
+
+-- a node over parts of one of some forms
+pub a_node_of : {forms : List (List Part)} {a : Form} (kind : Kind) (sorts : List Sort) → FormsOneOf forms a → ((kinds : List Kind) → FitsOneOf forms kinds → FitsOneOf (shape kind) kinds) → false ≡ is_named kind → IsOf sorts kind → IsA sorts (As kind a)
+a_node_of kind sorts A fits named sort = form_whole sorts (spanning kind) A (λ ts u h fit. fits (kinds_of (pack u)) fit) (λ ts u h. named) (λ ts u h. sort)
+
+-- a first one and those behind its comma, one at least
+pub first_and_some : {a b : Form} (sorts : List Sort) → IsA sorts a → AreOfSorts sorts b → Forms (some sorts) (Then a (CommaRest b))
+first_and_some sorts A B = form_then A (form_row_of (behind_comma sorts B))
+
+-- ---- parts that may be left out
+
+-- no kids of a last part
+pub and_none : (parts others : List Part) → Fits others [] → (ks : List Kind) → Fits parts ks → Fits (parts ++ others) ks
+and_none parts others none ks h = subst (λ (xs : List Kind). Fits (parts ++ others) xs) (append-nil ks) (fits_append parts others ks [] h none)
+
+-- no kids of a first part
+pub none_and : (parts others : List Part) → Fits parts [] → (ks : List Kind) → Fits others ks → Fits (parts ++ others) ks
+none_and parts others none ks h = fits_append parts others [] ks none h
+
+-- it, or no trees
+pub form_perhaps : {parts : List Part} {a : Form} → Forms parts a → Fits parts [] → Forms parts (Maybe a)
+form_perhaps A none = form_either A (record { shaped = λ ts out h. rw h.1 tt; fits = λ ts out h. rw h.1 none })
+
+-- trees of no sort are none
+pub no_trees : {a : Form} → AreOfSorts [] a → Forms [] a
+no_trees A = record { shaped = A.shaped; fits = λ ts out h. none (kinds_of (pack out)) (A.each ts out h) }
+  where
+    none : (ks : List Kind) → AreOf [] ks → ks ≡ []
+    none [] of = refl
+    none (k ∷ ks) of = absurd of.0

@@ -4,19 +4,22 @@ use Rattle.lint_values.specs.declared.place.Pos.{Pos}
 use Rattle.tree_nodes.specs.declared.kind.Kind.{Kind}
 use Rattle.tree_nodes.specs.declared.kind.Kind.TheVariants as kinds
 use Rattle.tree_nodes.specs.Trees.{Node, Trees, Tree, pack}
-use Rattle.tree_nodes.specs.Sorts.{Sort, parameter, positional_only_mark, keyword_only_mark, star_parameter, keyword_only_parameter, double_star_parameter, sort_of, is_named, IsOf, AreOf, only}
+use Rattle.tree_nodes.specs.Sorts.{Sort, annotation, star_annotation, parameter, positional_only_mark, keyword_only_mark, star_parameter, keyword_only_parameter, double_star_parameter, sort_of, is_named, IsOf, AreOf, only}
 use Rattle.tree_nodes.specs.Shapes.{Part, a_row, Fits, FitsOneOf, one, maybe, many, some, shape, later_parameters, behind_parameters}
 use Rattle.tree_nodes.specs.Shaped.{kinds_of, HasShape, AreShaped}
 use Rattle.py_language.specs.Languages.{Then, Maybe, Made, Where}
 use Rattle.py_language.specs.Forms.{Forms, FormsOneOf, AreOfSorts}
 use Rattle.py_language.proofs.KindLaws.{row_fits, fits_row}
+use Rattle.py_language.proofs.FormLaws.{form_made}
 use Rattle.py_grammar.specs.declared.stage.Stage.{Stage}
 use Rattle.py_grammar.specs.declared.stage.Stage.TheVariants as stages
 use Rattle.py_grammar.specs.Terminals.{Terminal, Form}
 use Rattle.py_grammar.specs.Tests.{kind_of, ends_with_default, behind_parameter, behind_slash, behind_star, behind_double_star, next_stage, may_end, parameters_from, parameters_in_order, keyword_only, is_star, with_keyword_only}
-use Rattle.py_grammar.specs.Expressions.{keyword_only_behind_star}
-use Rattle.py_grammar.proofs.ShapeBasics.{never, every, sorts_say}
-use Rattle.py_grammar.proofs.ShapeBrackets.{row_none, row_more}
+use Rattle.py_grammar.specs.Words.{star as star_mark}
+use Rattle.py_grammar.specs.Nodes.{Token}
+use Rattle.py_grammar.specs.Expressions.{keyword_only_behind_star, star_parameter as star_node}
+use Rattle.py_grammar.proofs.ShapeBasics.{IsA, never, every, sorts_say, behind, form_perhaps, forms_same}
+use Rattle.py_grammar.proofs.ShapeBrackets.{AreGood, good_node, row_none, row_more}
 
 -- what a list of parameters has
 abbrev pub parameters : List Sort
@@ -237,3 +240,34 @@ are_parameters A = record {
   shaped = λ ts out h. rw h.trees (with_keywords_shaped false h.parts (A.shaped ts h.parts h.spelled.0));
   fits = λ ts out h. rw h.trees (in_order_fits h.parts stages.Start (A.each ts h.parts h.spelled.0) h.spelled.1);
 }
+
+-- `*`, or `*` and a name with maybe an annotation
+pub a_star : {a : Form} → Forms (maybe (annotation ∷ star_annotation ∷ [])) a → ((out : List Tree) → a [] out → ⊥) → IsA parameters (Made star_node (Then (Token star_mark) (Maybe a)))
+unfolding shape sort_of is_named
+a_star {a} A begins = form_made (one parameters) star_node (λ ts u h. (go ts u h (all.shaped ts u h) (all.fits ts u h)).0) (λ ts u h. (go ts u h (all.shaped ts u h) (all.fits ts u h)).1)
+  where
+    all : Forms (maybe (annotation ∷ star_annotation ∷ [])) (Then (Token star_mark) (Maybe a))
+    all = behind star_mark (form_perhaps A refl)
+
+    no_tokens : (f b : List Terminal) (k : Terminal) → [] ≡ f ++ b → f ≡ k ∷ [] → ⊥
+    no_tokens [] b k e f_is = absurd cc
+    no_tokens (x ∷ f) b k e f_is = absurd cc
+
+    one_token : (t k : Terminal) (f b : List Terminal) → t ∷ [] ≡ f ++ b → f ≡ k ∷ [] → b ≡ []
+    one_token t k [] b e f_is = absurd cc
+    one_token t k (x ∷ []) b e f_is = cc
+    one_token t k (x ∷ y ∷ f) b e f_is = absurd cc
+
+    nothing : (xs : List Terminal) (v : List Tree) → xs ≡ [] → Maybe a xs v → v ≡ []
+    nothing xs v e h = elim h [ inl g ↦ absurd (begins v (subst (λ (ys : List Terminal). a ys v) e g)) | inr g ↦ g.1 ]
+
+    go : (ts : List Terminal) (u : List Tree) → Then (Token star_mark) (Maybe a) ts u → AreShaped (pack u) → Fits (maybe (annotation ∷ star_annotation ∷ [])) (kinds_of (pack u)) → AreGood (one parameters) (star_node ts u)
+    go [] u h s fit = absurd (no_tokens h.front h.back h.first.token h.tokens h.first.tokens)
+    go (t ∷ []) u h s fit =
+        let none : u ≡ [] = h.trees ∙ ap (λ (v : List Tree). v ++ h.back_out) h.first.trees ∙ nothing h.back h.back_out (one_token t h.first.token h.front h.back h.tokens h.first.tokens) h.second in
+        good_node kinds.KeywordOnlyMark parameters (t ∷ []) u (inl (ap (λ (v : List Tree). kinds_of (pack v)) none)) refl (inr (inr (inl refl))) s
+    go (t ∷ k ∷ ts) u h s fit = ((record { fits = inl fit; named = refl }, s, tt), (inr (inr (inr (inl refl))), refl))
+
+-- or no parameters
+pub perhaps_parameters : {a : Form} → FormsOneOf (behind_parameters []) a → FormsOneOf (behind_parameters []) (Maybe a)
+perhaps_parameters A = forms_same A (record { shaped = λ ts out h. rw h.1 tt; fits = λ ts out h. rw h.1 (inr (inl ([], [], refl, tt, ([], [], refl, tt, refl)))) })
