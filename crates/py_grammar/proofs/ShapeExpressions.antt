@@ -17,17 +17,23 @@ use Rattle.py_grammar.specs.declared.symbol.Symbol.{Symbol}
 use Rattle.py_grammar.specs.declared.symbol.Symbol.TheVariants as s
 use Rattle.py_grammar.specs.declared.entry.Entry.{Entry}
 use Rattle.py_grammar.specs.declared.entry.Entry.TheVariants as e
-use Rattle.py_grammar.specs.Terminals.{Terminal, Form, code}
+use Rattle.py_grammar.specs.Symbols.{number_of, set_of}
+use Rattle.py_grammar.specs.Terminals.{Terminal, Form, code, is_one_of}
 use Rattle.py_grammar.specs.Words.{name, number, plain_string, byte_string, format_string, format_string_end, field_open, field_close, simple_atom, constant_word, and_word, async_word, await_word, else_word, for_word, from_word, if_word, in_word, is_word, lambda_word, not_word, or_word, yield_word, comma, colon, dot, assign, walrus, star, double_star, slash, bar, caret, ampersand, sign, shift_operator, sum_operator, product_operator, comparison_operator, left_paren, right_paren, left_bracket, right_bracket, left_brace, right_brace}
 use Rattle.py_grammar.specs.Nodes.{spanning, called, first_text, second_text, last_text, strings_text, atom_leaf, operator_leaf, plain_leaf, named_leaf, Token, Leaf, As, Called, Row, Commas, CommaRest, Tupled, InParentheses, InBrackets, InBraces}
 use Rattle.py_grammar.specs.Tests.{in_order, parameters_in_order}
-use Rattle.py_grammar.specs.Expressions.{in_parentheses, in_brackets, in_braces, are_alike, call_arguments, are_arguments, string_node, sign_node, star_parameter, keyword_only_behind_star, Target, Star, Named, Element, SxItem, Sx, Yield, TargetItem, Targets, ForClause, Clause, Clauses, Parenthesized, ListDisplay, ItemOrNamed, Unpacked, BraceEntry, BraceDisplay, StarredArgument, PlainArgument, Argument, Arguments, CallArguments, SliceRest, Slice, StarredSlice, Slices, Trailed, FieldExpression, InnerField, Field, StringPart, Strings, Atom, Primary, Awaited, Power, Factor, Term, Arith, Shift, BitAnd, BitXor, BitOr, ComparisonSign, Comparison, Not, And, Or, LambdaParameter, LambdaParameters, Lambda, Test}
+use Rattle.py_grammar.specs.Expressions.{ends_with_comma, has_own_comma, in_parentheses, in_brackets, in_braces, are_alike, call_arguments, are_arguments, string_node, sign_node, star_parameter, keyword_only_behind_star, Target, Star, Named, Element, SxItem, Sx, Yield, TargetItem, Targets, ForClause, Clause, Clauses, Parenthesized, ListDisplay, ItemOrNamed, Unpacked, BraceEntry, BraceDisplay, StarredArgument, PlainArgument, Argument, Arguments, CallArguments, SliceRest, Slice, StarredSlice, Slices, Trailed, FieldExpression, InnerField, Field, StringPart, Strings, Atom, Primary, Awaited, Power, Factor, Term, Arith, Shift, BitAnd, BitXor, BitOr, ComparisonSign, Comparison, Not, And, Or, LambdaParameter, LambdaParameters, Lambda, Test}
 use Rattle.py_grammar.specs.HeaderParts.{sorts_of}
 use Rattle.py_grammar.proofs.ShapeBasics.{IsA, never, expression_is_value, other, behind, a_node, a_named_node, operands, operands_with, with_commas, behind_comma, first_and_rest, form_within, forms_same, forms_as, form_over}
 use Rattle.py_grammar.proofs.ShapeTargets.{a_target}
 use Rattle.py_grammar.proofs.ShapeBrackets.{held, held_row, held_in, held_maybe, first_and_more, a_list, braced, a_brace, argument, plain_argument, order_fits, are_call_arguments}
 use Rattle.py_grammar.proofs.ShapeParentheses.{IsLone, lone_either, lone_maybe, lone_of, lone_first, lone_with_comma, a_parenthesis}
 use Rattle.py_grammar.proofs.ShapeParameters.{parameters, are_parameters}
+
+-- a star is no `yield`
+star_no_yield : (symbol : Symbol) → mem (number_of symbol) star ≡ true → mem (number_of symbol) (set_of (s.YieldWord ∷ [])) ≡ false
+star_no_yield s.Star h = refl
+star_no_yield symbol h = never h
 
 module _ (L : Entry → Form) (known : (entry : Entry) → IsA (sorts_of entry) (L entry)) where
   -- ---- stars, names with `:=`, elements, yields
@@ -100,10 +106,23 @@ module _ (L : Entry → Form) (known : (entry : Entry) → IsA (sorts_of entry) 
   named_and_more : FormsOneOf (held value expression) (Then (Named L) (Maybe (Either (Clauses L) (CommaRest (Element L)))))
   named_and_more = first_and_more value expression is_named_expression expression_is_value are_clauses more_elements
 
+  -- a comma behind a star is one of its own
+  own_comma : (opening : Terminal) (front back : List Terminal) (u : List Tree) → Star L front u → ends_with_comma (opening ∷ (front ++ back)) ≡ true → has_own_comma (opening ∷ (front ++ back)) ≡ true
+  unfolding Star
+  own_comma o front back u h e = go front h.spelled.front h.spelled.back h.spelled.first.token h.spelled.tokens h.spelled.first.tokens (star_no_yield h.spelled.first.token.symbol h.spelled.first.is_in) e
+    where
+      go : (xs f b : List Terminal) (t : Terminal) → xs ≡ f ++ b → f ≡ t ∷ [] → is_one_of (s.YieldWord ∷ []) t ≡ false → ends_with_comma (o ∷ (xs ++ back)) ≡ true → has_own_comma (o ∷ (xs ++ back)) ≡ true
+      go xs f b t e1 e2 not ends = let same : o ∷ (xs ++ back) ≡ o ∷ t ∷ (b ++ back) = rw (e1, e2) refl in ap has_own_comma same ∙ at_star t (b ++ back) not (ap ends_with_comma (sym same) ∙ ends)
+        where
+          at_star : (k : Terminal) (more : List Terminal) → is_one_of (s.YieldWord ∷ []) k ≡ false → ends_with_comma (o ∷ k ∷ more) ≡ true → has_own_comma (o ∷ k ∷ more) ≡ true
+          at_star k more no_yield comma_last = rw no_yield comma_last
+
   pub is_parenthesized : IsA expression (Parenthesized L)
   unfolding Parenthesized
   is_parenthesized = a_parenthesis (held_maybe value expression (forms_same yields (forms_same stars named_and_more)))
-      (lone_maybe expression (lone_either expression (lone_of expression is_yield) (lone_either expression (lone_with_comma (only starred) value expression is_star (with_commas value is_element)) (lone_first expression is_named_expression))))
+      (lone_maybe has_own_comma expression
+      (lone_either has_own_comma expression (lone_of has_own_comma expression is_yield)
+      (lone_either has_own_comma expression (lone_with_comma has_own_comma (only starred) value expression own_comma is_star (with_commas value is_element)) (lone_first has_own_comma expression is_named_expression))))
     where
       yields : FormsOneOf (held value expression) (Yield L)
       yields = held_row value expression (sorts_wider expression_is_value (sorts_single is_yield))

@@ -16,7 +16,7 @@ use Rattle.py_language.proofs.KindLaws.{row_fits}
 use Rattle.py_grammar.specs.Terminals.{Terminal, Form, code, no_terminal, last_but_one_of}
 use Rattle.py_grammar.specs.Words.{comma, left_paren, right_paren}
 use Rattle.py_grammar.specs.Nodes.{spanning, Token, Commas, CommaRest, InParentheses}
-use Rattle.py_grammar.specs.Expressions.{is_comprehension, ends_with_comma, in_parentheses}
+use Rattle.py_grammar.specs.Expressions.{is_comprehension, ends_with_comma, has_own_comma, in_parentheses}
 use Rattle.py_grammar.proofs.ShapeBasics.{IsA, form_over, never, other, with_commas}
 use Rattle.py_grammar.proofs.ShapeBrackets.{AreGood, good_node, good_if, held, held_in, held_maybe, Holds, holds_elements, holds_clauses, what_is_held}
 
@@ -32,21 +32,21 @@ last_but_one x t u =
 
 -- ---- one tree alone
 
--- a tree alone is of the sorts, or a comma stands before the bracket that closes
-pub record IsLone (sorts : List Sort) (a : Form) : Type 0 where
-  pub alone : (ts : List Terminal) (t : Tree) → a ts (t ∷ []) → (opening closing : Terminal) → (ends_with_comma (opening ∷ (ts ++ closing ∷ [])) ≡ true) ⊎ IsOf sorts t.node.kind
+-- a tree alone is of the sorts, or the tokens between the brackets end with a comma
+pub record IsLone (ends : List Terminal → Bool) (sorts : List Sort) (a : Form) : Type 0 where
+  pub alone : (ts : List Terminal) (t : Tree) → a ts (t ∷ []) → (opening closing : Terminal) → (ends (opening ∷ (ts ++ closing ∷ [])) ≡ true) ⊎ IsOf sorts t.node.kind
 
-pub lone_either : {a b : Form} (sorts : List Sort) → IsLone sorts a → IsLone sorts b → IsLone sorts (Either a b)
-lone_either sorts A B = record { alone = λ ts t h o c. elim h [ inl g ↦ A.alone ts t g o c | inr g ↦ B.alone ts t g o c ] }
+pub lone_either : {a b : Form} (ends : List Terminal → Bool) (sorts : List Sort) → IsLone ends sorts a → IsLone ends sorts b → IsLone ends sorts (Either a b)
+lone_either ends sorts A B = record { alone = λ ts t h o c. elim h [ inl g ↦ A.alone ts t g o c | inr g ↦ B.alone ts t g o c ] }
 
-pub lone_maybe : {a : Form} (sorts : List Sort) → IsLone sorts a → IsLone sorts (Maybe a)
-lone_maybe sorts A = record { alone = λ ts t h o c. elim h [ inl g ↦ A.alone ts t g o c | inr g ↦ absurd (no_tree t g.1) ] }
+pub lone_maybe : {a : Form} (ends : List Terminal → Bool) (sorts : List Sort) → IsLone ends sorts a → IsLone ends sorts (Maybe a)
+lone_maybe ends sorts A = record { alone = λ ts t h o c. elim h [ inl g ↦ A.alone ts t g o c | inr g ↦ absurd (no_tree t g.1) ] }
   where
     no_tree : (x : Tree) → x ∷ [] ≡ [] → ⊥
     no_tree x e = absurd cc
 
-pub lone_of : {a : Form} (sorts : List Sort) → IsA sorts a → IsLone sorts a
-lone_of sorts A = record { alone = λ ts t h o c. inr (A.fits ts (t ∷ []) h).0 }
+pub lone_of : {a : Form} (ends : List Terminal → Bool) (sorts : List Sort) → IsA sorts a → IsLone ends sorts a
+lone_of ends sorts A = record { alone = λ ts t h o c. inr (A.fits ts (t ∷ []) h).0 }
 
 -- the trees of a first part and of a second, which are one tree alone
 only_first : (sorts : List Sort) (t : Tree) (f b : List Tree) → t ∷ [] ≡ f ++ b → Fits (one sorts) (kinds_of (pack f)) → (t ∷ [] ≡ f) × (b ≡ [])
@@ -55,22 +55,24 @@ only_first sorts t (x ∷ []) b e fit = (cc, cc)
 only_first sorts t (x ∷ y ∷ f) b e fit = absurd cc
 
 -- a first one of the sorts, whatever stands behind it
-pub lone_first : {a b : Form} (sorts : List Sort) → IsA sorts a → IsLone sorts (Then a b)
-lone_first sorts A = record {
+pub lone_first : {a b : Form} (ends : List Terminal → Bool) (sorts : List Sort) → IsA sorts a → IsLone ends sorts (Then a b)
+lone_first ends sorts A = record {
   alone = λ ts t h o c.
       let fit = A.fits h.front h.front_out h.first in
       let e = (only_first sorts t h.front_out h.back_out h.trees fit).0 in
       inr (subst (λ (u : List Tree). Fits (one sorts) (kinds_of (pack u))) (sym e) fit).0;
 }
 
--- a first one and those behind its comma
-pub lone_with_comma : {a b : Form} (stars elements sorts : List Sort) → IsA stars a → Forms (some elements) (Commas b) → IsLone sorts (Then a (CommaRest b))
-lone_with_comma {a} {b} stars elements sorts A B = record {
+-- a first one and those behind its comma, where a comma behind what a spells is one that ends
+pub lone_with_comma : {a b : Form} (ends : List Terminal → Bool) (stars elements sorts : List Sort)
+    → ((opening : Terminal) (front back : List Terminal) (u : List Tree) → a front u → ends_with_comma (opening ∷ (front ++ back)) ≡ true → ends (opening ∷ (front ++ back)) ≡ true) → IsA stars a → Forms (some elements) (Commas b)
+    → IsLone ends sorts (Then a (CommaRest b))
+lone_with_comma {a} {b} ends stars elements sorts own A B = record {
   alone = λ ts t h o c.
       let rest = h.second in
       let none = (only_first stars t h.front_out h.back_out h.trees (A.fits h.front h.front_out h.first)).1 in
       let (behind, last) = no_more rest.back rest.back_out (nothing_left h.back_out rest.front_out rest.back_out rest.trees none) rest.second in
-      inl (comma_is_last o c ts h.front h.back rest.front rest.back rest.first.token h.tokens rest.tokens rest.first.tokens behind rest.first.is_in);
+      inl (all_end o c ts h.front h.back h.tokens (own o h.front (h.back ++ c ∷ []) h.front_out h.first (moved o c ts h.front h.back h.tokens (comma_is_last o c ts h.front h.back rest.front rest.back rest.first.token h.tokens rest.tokens rest.first.tokens behind rest.first.is_in))));
 }
   where
     nothing_left : (u f v : List Tree) → u ≡ f ++ v → u ≡ [] → v ≡ []
@@ -80,6 +82,15 @@ lone_with_comma {a} {b} stars elements sorts A B = record {
     no_more : (xs : List Terminal) (u : List Tree) → u ≡ [] → Maybe (Commas b) xs u → (xs ≡ []) × (u ≡ [])
     no_more xs u n g = elim g [ inl k ↦ absurd (subst (λ (v : List Tree). Fits (some elements) (kinds_of (pack v))) n (B.fits xs u k)) | inr k ↦ k ]
 
+    same_tokens : (o c : Terminal) (all front back : List Terminal) → all ≡ front ++ back → o ∷ (all ++ c ∷ []) ≡ o ∷ (front ++ (back ++ c ∷ []))
+    same_tokens o c all front back e = rw e (ap (λ (w : List Terminal). o ∷ w) (append_assoc front back (c ∷ [])))
+
+    moved : (o c : Terminal) (all front back : List Terminal) → all ≡ front ++ back → ends_with_comma (o ∷ (all ++ c ∷ [])) ≡ true → ends_with_comma (o ∷ (front ++ (back ++ c ∷ []))) ≡ true
+    moved o c all front back e h = ap ends_with_comma (sym (same_tokens o c all front back e)) ∙ h
+
+    all_end : (o c : Terminal) (all front back : List Terminal) → all ≡ front ++ back → ends (o ∷ (front ++ (back ++ c ∷ []))) ≡ true → ends (o ∷ (all ++ c ∷ [])) ≡ true
+    all_end o c all front back e h = ap ends (same_tokens o c all front back e) ∙ h
+
     comma_is_last : (o c : Terminal) (all front back mark more : List Terminal) (k : Terminal) → all ≡ front ++ back → back ≡ mark ++ more → mark ≡ k ∷ [] → more ≡ [] → mem (code k) comma ≡ true → ends_with_comma (o ∷ (all ++ c ∷ [])) ≡ true
     comma_is_last o c all front back mark more k e1 e2 e3 e4 is =
         let same : o ∷ (all ++ c ∷ []) ≡ (o ∷ front) ++ k ∷ c ∷ [] = rw (e1, e2, e3, e4) (ap (λ (w : List Terminal). o ∷ w) (append_assoc front (k ∷ []) (c ∷ []))) in
@@ -87,12 +98,12 @@ lone_with_comma {a} {b} stars elements sorts A B = record {
         ap (λ (w : Terminal). mem (code w) comma) last ∙ is
 
 -- between brackets
-pub lone_in : {a : Form} (sorts : List Sort) (opening closing : List ℕ) → IsLone sorts a → (ts : List Terminal) (t : Tree) → Bracketed code opening closing a ts (t ∷ []) → (ends_with_comma ts ≡ true) ⊎ IsOf sorts t.node.kind
-lone_in {a} sorts opening closing A ts t h =
+pub lone_in : {a : Form} (ends : List Terminal → Bool) (sorts : List Sort) (opening closing : List ℕ) → IsLone ends sorts a → (ts : List Terminal) (t : Tree) → Bracketed code opening closing a ts (t ∷ []) → (ends ts ≡ true) ⊎ IsOf sorts t.node.kind
+lone_in {a} ends sorts opening closing A ts t h =
     let out = inner_trees (t ∷ []) h.front_out h.back_out h.second.front_out h.second.back_out h.trees h.first.trees h.second.trees h.second.second.trees in
     let tokens = inner_tokens ts h.front h.back h.second.front h.second.back h.first.token h.second.second.token h.tokens h.first.tokens h.second.tokens h.second.second.tokens in
     elim (A.alone h.second.front t (subst (λ (u : List Tree). a h.second.front u) (sym out) h.second.first) h.first.token h.second.second.token) [
-      | inl e ↦ inl (ap ends_with_comma tokens ∙ e)
+      | inl e ↦ inl (ap ends tokens ∙ e)
       | inr of ↦ inr of
     ]
   where
@@ -104,7 +115,7 @@ lone_in {a} sorts opening closing A ts t h =
 
 -- ---- round brackets
 
-pub a_parenthesis : {a : Form} → FormsOneOf (held value expression) a → IsLone expression a → IsA expression (Made in_parentheses (InParentheses a))
+pub a_parenthesis : {a : Form} → FormsOneOf (held value expression) a → IsLone has_own_comma expression a → IsA expression (Made in_parentheses (InParentheses a))
 unfolding shape sort_of is_named
 a_parenthesis {a} A lone = form_over (one expression) in_parentheses (held_in value expression left_paren right_paren A) (λ ts u h fit s. go ts u h s (what_is_held value expression u refl fit))
   where
@@ -119,6 +130,6 @@ a_parenthesis {a} A lone = form_over (one expression) in_parentheses (held_in va
     go : (ts : List Terminal) (u : List Tree) → InParentheses a ts u → AreShaped (pack u) → Holds value expression u → AreGood (one expression) (in_parentheses ts u)
     go ts [] h s what = good_node kinds.Tuple expression ts [] (inl ([], [], refl, tt, refl)) refl (other kinds.Tuple refl) s
     go ts (t ∷ []) h s what =
-        good_if (one expression) (ends_with_comma ts) (whole (spanning kinds.Tuple) ts (t ∷ [])) (t ∷ []) (λ e. good_node kinds.Tuple expression ts (t ∷ []) (inl (row_fits value (t.node.kind ∷ []) (elements_alone t what))) refl (other kinds.Tuple refl) s)
-        (λ e. (s, (elim (lone_in expression left_paren right_paren lone ts t h) [ inl c ↦ never (sym e ∙ c) | inr of ↦ of ], refl)))
+        good_if (one expression) (has_own_comma ts) (whole (spanning kinds.Tuple) ts (t ∷ [])) (t ∷ []) (λ e. good_node kinds.Tuple expression ts (t ∷ []) (inl (row_fits value (t.node.kind ∷ []) (elements_alone t what))) refl (other kinds.Tuple refl) s)
+        (λ e. (s, (elim (lone_in has_own_comma expression left_paren right_paren lone ts t h) [ inl c ↦ never (sym e ∙ c) | inr of ↦ of ], refl)))
     go ts (t ∷ v ∷ u) h s what = several ts t v u s what
