@@ -31,6 +31,7 @@ pub mod ShapeLeaves
 pub mod ShapeOperators
 pub mod ShapeParameters
 pub mod ShapeParentheses
+pub mod ShapePatterns
 pub mod ShapeSequences
 pub mod ShapeStrings
 pub mod ShapeTargets
