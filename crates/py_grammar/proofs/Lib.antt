@@ -33,6 +33,7 @@ pub mod ShapeParameters
 pub mod ShapeParentheses
 pub mod ShapePatterns
 pub mod ShapeSequences
+pub mod ShapeStatements
 pub mod ShapeStrings
 pub mod ShapeTargets
 pub mod Statements

@@ -156,3 +156,8 @@ no_trees A = record { shaped = A.shaped; fits = λ ts out h. none (kinds_of (pac
     none : (ks : List Kind) → AreOf [] ks → ks ≡ []
     none [] of = refl
     none (k ∷ ks) of = absurd of.0
+
+-- the same with a name
+pub a_named_node_of : {forms : List (List Part)} {a : Form} (kind : Kind) (name_over : List Terminal → List ℕ) (sorts : List Sort) → FormsOneOf forms a → ((kinds : List Kind) → FitsOneOf forms kinds → FitsOneOf (shape kind) kinds) → true ≡ is_named kind
+    → IsOf sorts kind → IsA sorts (Called kind name_over a)
+a_named_node_of kind name_over sorts A fits named sort = form_whole sorts (called kind name_over) A (λ ts u h fit. fits (kinds_of (pack u)) fit) (λ ts u h. named) (λ ts u h. sort)
