@@ -27,6 +27,7 @@ pub mod Rows7
 pub mod ShapeBasics
 pub mod ShapeBrackets
 pub mod ShapeExpressions
+pub mod ShapeHeaders
 pub mod ShapeLeaves
 pub mod ShapeOperators
 pub mod ShapeParameters
@@ -36,6 +37,7 @@ pub mod ShapeSequences
 pub mod ShapeStatements
 pub mod ShapeStrings
 pub mod ShapeTargets
+pub mod Shapes
 pub mod Statements
 pub mod TreeRows1
 pub mod TreeRows2

@@ -1,12 +1,15 @@
 -- The sorts of the tree that a phrase spells, and the parts that a line of each kind gives its statement or clause: those
 -- before the block.
 use Rattle.std.specs.Prelude.{List, [], ◌∷◌, ◌++◌}
+use Rattle.tree_nodes.specs.Trees.{pack}
 use Rattle.tree_nodes.specs.Sorts.{Sort, statement, decorator, with_item, annotation, as_name, pattern, only, expression, value, any_target}
-use Rattle.tree_nodes.specs.Shapes.{Part, one, maybe, many, some, arguments, behind_parameters, sole}
+use Rattle.tree_nodes.specs.Shapes.{Part, Fits, FitsOneOf, one, maybe, many, some, arguments, behind_parameters, sole}
+use Rattle.tree_nodes.specs.Shaped.{kinds_of, AreShaped}
 use Rattle.py_grammar.specs.declared.entry.Entry.{Entry}
 use Rattle.py_grammar.specs.declared.entry.Entry.TheVariants as e
 use Rattle.py_grammar.specs.declared.head.Head.{Head}
 use Rattle.py_grammar.specs.declared.head.Head.TheVariants as heads
+use Rattle.py_grammar.specs.Lines.{LineForm}
 
 -- a phrase is one expression or one pattern
 abbrev pub sorts_of : Entry → List Sort
@@ -35,6 +38,16 @@ parts_of heads.ClassDef = sole arguments
 parts_of heads.Match = sole (one expression)
 parts_of heads.Case = sole (one (only pattern) ++ maybe expression)
 
--- the simple statements of a line
-abbrev pub body_parts : List Part
-body_parts = many (only statement)
+-- the parts of a line's simple statements: a decorator and the header of a `match` have none behind them
+abbrev pub body_of : Head → List Part
+body_of heads.Simple = some (only statement)
+body_of heads.Decorator = []
+body_of heads.Match = []
+body_of head = many (only statement)
+
+-- the trees of a line are in shape, and fit its kind
+pub record IsLineShaped (line : LineForm) : Type 0 where
+  pub nodes_shaped : AreShaped (pack line.nodes)
+  pub nodes_fit : FitsOneOf (parts_of line.head) (kinds_of (pack line.nodes))
+  pub body_shaped : AreShaped (pack line.body)
+  pub body_fits : Fits (body_of line.head) (kinds_of (pack line.body))
