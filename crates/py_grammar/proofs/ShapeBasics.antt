@@ -1,20 +1,19 @@
 -- The forms of what the grammar's forms are built of: tokens, nodes, rows, items with commas, and what brackets hold.
-use Rattle.std.proofs.Common.{◌≡◌, ℕ, Bool, true, false, ◌&&◌, List, [], ◌∷◌, ◌++◌, inl, inr, refl, sym, ap, subst, ◌∙◌}
+use Rattle.std.proofs.Common.{◌≡◌, ℕ, Bool, true, false, ◌&&◌, List, [], ◌∷◌, ◌++◌, inl, inr, refl, ap, subst, ◌∙◌}
 use Rattle.std.proofs.lemmas.List.{append-nil}
 use Rattle.tree_nodes.specs.declared.kind.Kind.{Kind}
-use Rattle.tree_nodes.specs.declared.kind.Kind.TheVariants as kinds
-use Rattle.tree_nodes.specs.Trees.{Node, Tree, pack}
-use Rattle.tree_nodes.specs.Sorts.{Sort, sort_of, is_named, IsOf, AreOf, only, other_expression, expression, value}
-use Rattle.tree_nodes.specs.Shapes.{Part, a_row_of_pairs, Fits, FitsOneOf, one, maybe, many, some, shape, before_each}
-use Rattle.tree_nodes.specs.Shaped.{kinds_of, HasShape, AreShaped}
-use Rattle.py_language.specs.Languages.{Language, Then, Either, Maybe, Many, Some, Skipped, Made, Where, Bracketed, whole, row}
+use Rattle.tree_nodes.specs.Trees.{Tree, pack}
+use Rattle.tree_nodes.specs.Sorts.{Sort, sort_of, is_named, IsOf, AreOf, other_expression, expression, value}
+use Rattle.tree_nodes.specs.Shapes.{Part, a_row_of_pairs, Fits, FitsOneOf, one, many, some, shape}
+use Rattle.tree_nodes.specs.Shaped.{kinds_of, AreShaped}
+use Rattle.py_language.specs.Languages.{Then, Either, Maybe, Made, Where}
 use Rattle.py_language.specs.Forms.{Forms, FormsOneOf, AreOfSorts}
 use Rattle.py_language.proofs.KindLaws.{fits_append, two_operands, two_between}
-use Rattle.py_language.proofs.SortLaws.{form_row_of, sorts_row, sorts_single, sorts_possible, sorts_wider, sorts_skipped, sorts_then, sorts_either, sorts_maybe, sorts_many, sorts_some, sorts_separated}
-use Rattle.py_language.proofs.FormLaws.{form_as, form_wider, form_skipped, form_then, form_either, form_many, form_pairs, form_separated, form_joined, form_bracketed, form_node, form_whole, form_row, forms_then, forms_behind}
+use Rattle.py_language.proofs.SortLaws.{form_row_of, sorts_skipped, sorts_then, sorts_maybe, sorts_separated}
+use Rattle.py_language.proofs.FormLaws.{form_skipped, form_then, form_either, form_pairs, form_separated, form_joined, form_node, form_whole, form_row}
 use Rattle.py_grammar.specs.Terminals.{Terminal, Form, code}
 use Rattle.py_grammar.specs.Words.{comma}
-use Rattle.py_grammar.specs.Nodes.{spanning, called, Token, As, Called, Row, Joined, Commas, CommaRest, Tupled}
+use Rattle.py_grammar.specs.Nodes.{spanning, called, Token, As, Called, Row, Joined, Commas, CommaRest}
 
 -- one tree of one of these sorts
 abbrev pub IsA : List Sort → Form → Type 0

@@ -1,21 +1,21 @@
 -- What brackets hold is in shape: displays, generators, round brackets, and the arguments of a call.
-use Rattle.std.proofs.Common.{◌≡◌, ℕ, ◌-◌, ◌&&◌, ◌||◌, Bool, true, false, if◌then◌else◌, List, [], ◌∷◌, ◌++◌, length, inl, inr, refl, sym, ap, subst, ◌∙◌, append_assoc, Option, Some, None}
+use Rattle.std.proofs.Common.{◌≡◌, ℕ, ◌||◌, Bool, true, false, if◌then◌else◌, List, [], ◌∷◌, ◌++◌, inl, inr, refl, sym, ap, Some}
 use Rattle.tree_nodes.specs.declared.kind.Kind.{Kind}
 use Rattle.tree_nodes.specs.declared.kind.Kind.TheVariants as kinds
-use Rattle.tree_nodes.specs.Trees.{Node, Tree, pack}
-use Rattle.tree_nodes.specs.Sorts.{Sort, starred, star_argument, keyword_argument, double_star_argument, dict_item, dict_unpack, comprehension_clause, sort_of, is_named, IsOf, AreOf, only, expression, value}
-use Rattle.tree_nodes.specs.Shapes.{Part, a_row, Fits, FitsOneOf, one, maybe, many, some, shape, arguments}
-use Rattle.tree_nodes.specs.Shaped.{kinds_of, HasShape, AreShaped}
-use Rattle.py_language.specs.Languages.{Then, Either, Maybe, Some as OneOrMore, Made, Where, Bracketed, whole}
+use Rattle.tree_nodes.specs.Trees.{Tree, pack}
+use Rattle.tree_nodes.specs.Sorts.{Sort, star_argument, keyword_argument, double_star_argument, dict_item, dict_unpack, comprehension_clause, sort_of, is_named, IsOf, AreOf, only, expression, value}
+use Rattle.tree_nodes.specs.Shapes.{Part, a_row, Fits, FitsOneOf, one, many, some, shape, arguments}
+use Rattle.tree_nodes.specs.Shaped.{kinds_of, AreShaped}
+use Rattle.py_language.specs.Languages.{Then, Either, Maybe, Made, Where, Bracketed, whole}
 use Rattle.py_language.specs.Forms.{Forms, FormsOneOf, AreOfSorts}
 use Rattle.py_language.proofs.KindLaws.{row_fits, fits_row}
-use Rattle.py_language.proofs.SortLaws.{form_row_of, sorts_row, sorts_wider, sorts_then, sorts_maybe, sorts_single}
+use Rattle.py_language.proofs.SortLaws.{form_row_of, sorts_wider, sorts_then, sorts_maybe, sorts_single}
 use Rattle.py_language.proofs.FormLaws.{form_then, forms_then, forms_behind, forms_sole, form_skipped}
 use Rattle.py_grammar.specs.Terminals.{Terminal, Form, code}
-use Rattle.py_grammar.specs.Nodes.{spanning, Token, CommaRest, InParentheses}
-use Rattle.py_grammar.specs.Tests.{kind_of, next_place, in_order_from, in_order}
-use Rattle.py_grammar.specs.Expressions.{is_clause, is_comprehension, is_of_dict, are_all, are_alike, is_plain, is_plain_first, are_arguments, in_brackets, in_braces, call_arguments, ends_with_comma}
-use Rattle.py_grammar.proofs.ShapeBasics.{IsA, never, every, sorts_say, IsWithin, forms_within, other, forms_same, forms_as, form_over, forms_where, behind_comma}
+use Rattle.py_grammar.specs.Nodes.{spanning}
+use Rattle.py_grammar.specs.Tests.{next_place, in_order_from, in_order}
+use Rattle.py_grammar.specs.Expressions.{is_clause, is_comprehension, is_of_dict, are_all, are_alike, is_plain, is_plain_first, are_arguments, in_brackets, in_braces, call_arguments}
+use Rattle.py_grammar.proofs.ShapeBasics.{IsA, never, every, sorts_say, IsWithin, forms_within, other, forms_same, forms_as, form_over, forms_where}
 use Rattle.py_grammar.proofs.ShapeTargets.{both_true}
 
 -- ---- nodes
@@ -187,8 +187,8 @@ a_brace A = form_over (one expression) in_braces (forms_where are_alike A) (λ t
   where
     by_kind : (ts : List Terminal) (t : Tree) (u : List Tree) → AreShaped (pack (t ∷ u)) → Holds braced (dict_item ∷ expression) (t ∷ u) → (b : Bool) → is_of_dict t.node.kind ≡ b → are_all b u ≡ true
         → AreGood (one expression)
-            (if b then (if is_comprehension (t ∷ u) then whole (spanning kinds.DictComprehension) ts (t ∷ u) else whole (spanning kinds.Dict) ts (t ∷ u))
-            else (if is_comprehension (t ∷ u) then whole (spanning kinds.SetComprehension) ts (t ∷ u) else whole (spanning kinds.Set) ts (t ∷ u)))
+        (if b then (if is_comprehension (t ∷ u) then whole (spanning kinds.DictComprehension) ts (t ∷ u) else whole (spanning kinds.Dict) ts (t ∷ u))
+        else (if is_comprehension (t ∷ u) then whole (spanning kinds.SetComprehension) ts (t ∷ u) else whole (spanning kinds.Set) ts (t ∷ u)))
     by_kind ts t u s (holds_elements e of) true is h = rw e (good_node kinds.Dict expression ts (t ∷ u) (inl (row_fits in_dict (kinds_of (pack (t ∷ u))) (of_dict t.node.kind is, alike true u of.1 h))) refl (other kinds.Dict refl) s)
     by_kind ts t u s (holds_elements e of) false is h = rw e (good_node kinds.Set expression ts (t ∷ u) (inl (not_of_dict value t.node.kind of.0 is, row_fits value (kinds_of (pack u)) (alike false u of.1 h))) refl (other kinds.Set refl) s)
     by_kind ts t u s (holds_clauses e fit) true is h = rw e (good_node kinds.DictComprehension expression ts (t ∷ u) (inl (item_of_dict t.node.kind fit.0 is, fit.1)) refl (other kinds.DictComprehension refl) s)

@@ -1,34 +1,29 @@
 -- Each form of an expression spells trees in shape, of the sorts that stand in its place.
-use Rattle.std.proofs.Common.{◌≡◌, ℕ, ◌||◌, Bool, true, false, if◌then◌else◌, List, [], ◌∷◌, ◌++◌, inl, inr, refl, sym, ap, subst, ◌∙◌, is_some}
-use Rattle.std.proofs.lemmas.List.{append-nil}
+use Rattle.std.proofs.Common.{◌≡◌, true, false, List, [], ◌∷◌, ◌++◌, inl, inr, refl, sym, ap, ◌∙◌}
 use Rattle.tree_nodes.specs.declared.kind.Kind.{Kind}
 use Rattle.tree_nodes.specs.declared.kind.Kind.TheVariants as kinds
-use Rattle.tree_nodes.specs.Trees.{Node, Tree, pack}
-use Rattle.tree_nodes.specs.Sorts.{Sort, starred, constant, name_read, other_expression, star_argument, keyword_argument, double_star_argument, slice, slice_colon, slices, dict_item, dict_unpack, comprehension_clause, field, positional_only_mark, double_star_parameter, parameter, sort_of, is_named, IsOf, AreOf, only, expression, value, target, any_target}
-use Rattle.tree_nodes.specs.Shapes.{Part, Fits, FitsOneOf, one, maybe, many, some, shape, arguments, subscripts, behind_parameters}
-use Rattle.tree_nodes.specs.Shaped.{kinds_of, HasShape, AreShaped}
+use Rattle.tree_nodes.specs.Trees.{Tree}
+use Rattle.tree_nodes.specs.Sorts.{starred, dict_item, comprehension_clause, sort_of, is_named, IsOf, only, expression, value, any_target}
+use Rattle.tree_nodes.specs.Shapes.{one, many, some, shape}
 use Rattle.py_language.specs.Sets.{mem}
-use Rattle.py_language.specs.Languages.{Then, Nothing, Either, Maybe, Many, Some as OneOrMore, Made, Where, Bracketed, Stepwise, whole}
+use Rattle.py_language.specs.Languages.{Then, Either, Maybe}
 use Rattle.py_language.specs.Forms.{Forms, FormsOneOf, AreOfSorts}
-use Rattle.py_language.proofs.KindLaws.{row_fits, fits_row, each_before}
-use Rattle.py_language.proofs.SortLaws.{form_row_of, sorts_row, sorts_single, sorts_possible, sorts_wider, sorts_nothing, sorts_skipped, sorts_then, sorts_either, sorts_maybe, sorts_many, sorts_some, sorts_where, sorts_separated, sorts_bracketed}
-use Rattle.py_language.proofs.FormLaws.{form_as, form_wider, form_nothing, form_skipped, form_shown, form_then, form_either, form_maybe, form_many, form_some, form_pairs, form_bracketed, form_where, form_steps, form_made, form_node, form_whole, forms_sole, forms_then, forms_behind, forms_maybe}
+use Rattle.py_language.proofs.SortLaws.{sorts_single, sorts_wider, sorts_then, sorts_maybe}
+use Rattle.py_language.proofs.FormLaws.{form_wider, form_then, form_either, form_maybe, form_many, form_some}
 use Rattle.py_grammar.specs.declared.symbol.Symbol.{Symbol}
 use Rattle.py_grammar.specs.declared.symbol.Symbol.TheVariants as s
 use Rattle.py_grammar.specs.declared.entry.Entry.{Entry}
 use Rattle.py_grammar.specs.declared.entry.Entry.TheVariants as e
 use Rattle.py_grammar.specs.Symbols.{number_of, set_of}
-use Rattle.py_grammar.specs.Terminals.{Terminal, Form, code, is_one_of}
-use Rattle.py_grammar.specs.Words.{name, number, plain_string, byte_string, format_string, format_string_end, field_open, field_close, simple_atom, constant_word, and_word, async_word, await_word, else_word, for_word, from_word, if_word, in_word, is_word, lambda_word, not_word, or_word, yield_word, comma, colon, dot, assign, walrus, star, double_star, slash, bar, caret, ampersand, sign, shift_operator, sum_operator, product_operator, comparison_operator, left_paren, right_paren, left_bracket, right_bracket, left_brace, right_brace}
-use Rattle.py_grammar.specs.Nodes.{spanning, called, first_text, second_text, last_text, strings_text, atom_leaf, operator_leaf, plain_leaf, named_leaf, Token, Leaf, As, Called, Row, Commas, CommaRest, Tupled, InParentheses, InBrackets, InBraces}
-use Rattle.py_grammar.specs.Tests.{in_order, parameters_in_order}
-use Rattle.py_grammar.specs.Expressions.{ends_with_comma, has_own_comma, in_parentheses, in_brackets, in_braces, are_alike, call_arguments, are_arguments, string_node, sign_node, star_parameter, keyword_only_behind_star, Target, Star, Named, Element, SxItem, Sx, Yield, TargetItem, Targets, ForClause, Clause, Clauses, Parenthesized, ListDisplay, ItemOrNamed, Unpacked, BraceEntry, BraceDisplay, StarredArgument, PlainArgument, Argument, Arguments, CallArguments, SliceRest, Slice, StarredSlice, Slices, Trailed, FieldExpression, InnerField, Field, StringPart, Strings, Atom, Primary, Awaited, Power, Factor, Term, Arith, Shift, BitAnd, BitXor, BitOr, ComparisonSign, Comparison, Not, And, Or, LambdaParameter, LambdaParameters, Lambda, Test}
+use Rattle.py_grammar.specs.Terminals.{Terminal, Form, is_one_of}
+use Rattle.py_grammar.specs.Words.{name, async_word, for_word, from_word, if_word, in_word, yield_word, colon, walrus, star, double_star, left_bracket, right_bracket, left_brace, right_brace}
+use Rattle.py_grammar.specs.Nodes.{first_text, Token, Called, CommaRest}
+use Rattle.py_grammar.specs.Expressions.{ends_with_comma, has_own_comma, Star, Named, Element, SxItem, Sx, Yield, TargetItem, Targets, ForClause, Clause, Clauses, Parenthesized, ListDisplay, ItemOrNamed, Unpacked, BraceEntry, BraceDisplay}
 use Rattle.py_grammar.specs.HeaderParts.{sorts_of}
-use Rattle.py_grammar.proofs.ShapeBasics.{IsA, never, expression_is_value, other, behind, a_node, a_named_node, operands, operands_with, with_commas, behind_comma, first_and_rest, form_within, forms_same, forms_as, form_over}
+use Rattle.py_grammar.proofs.ShapeBasics.{IsA, never, expression_is_value, other, behind, a_node, a_named_node, with_commas, behind_comma, first_and_rest, forms_same}
 use Rattle.py_grammar.proofs.ShapeTargets.{a_target}
-use Rattle.py_grammar.proofs.ShapeBrackets.{held, held_row, held_in, held_maybe, first_and_more, a_list, braced, a_brace, argument, plain_argument, order_fits, are_call_arguments}
-use Rattle.py_grammar.proofs.ShapeParentheses.{IsLone, lone_either, lone_maybe, lone_of, lone_first, lone_with_comma, a_parenthesis}
-use Rattle.py_grammar.proofs.ShapeParameters.{parameters, are_parameters}
+use Rattle.py_grammar.proofs.ShapeBrackets.{held, held_row, held_in, held_maybe, first_and_more, a_list, braced, a_brace}
+use Rattle.py_grammar.proofs.ShapeParentheses.{lone_either, lone_maybe, lone_of, lone_first, lone_with_comma, a_parenthesis}
 
 -- a star is no `yield`
 star_no_yield : (symbol : Symbol) → mem (number_of symbol) star ≡ true → mem (number_of symbol) (set_of (s.YieldWord ∷ [])) ≡ false

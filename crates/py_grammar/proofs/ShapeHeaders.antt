@@ -1,21 +1,18 @@
 -- Each header, up to its `:`, spells the parts that stand before the block, in shape.
-use Rattle.std.proofs.Common.{◌≡◌, ℕ, List, [], ◌∷◌, ◌++◌, inl, inr, refl}
+use Rattle.std.proofs.Common.{◌≡◌, List, [], ◌∷◌, ◌++◌, inl, inr, refl}
 use Rattle.tree_nodes.specs.declared.kind.Kind.{Kind}
 use Rattle.tree_nodes.specs.declared.kind.Kind.TheVariants as kinds
-use Rattle.tree_nodes.specs.Trees.{Tree, pack}
-use Rattle.tree_nodes.specs.Sorts.{Sort, decorator, with_item, annotation, star_annotation, as_name, positional_only_mark, pattern, sort_of, is_named, IsOf, only, expression, value, any_target}
-use Rattle.tree_nodes.specs.Shapes.{Part, Fits, FitsOneOf, one, maybe, many, some, shape, arguments, behind_parameters}
-use Rattle.tree_nodes.specs.Shaped.{kinds_of, AreShaped}
-use Rattle.py_language.specs.Languages.{Then, Either, Maybe}
+use Rattle.tree_nodes.specs.Sorts.{decorator, with_item, annotation, star_annotation, as_name, pattern, sort_of, is_named, only, expression, value, any_target}
+use Rattle.tree_nodes.specs.Shapes.{Fits, FitsOneOf, one, maybe, some, shape, arguments, behind_parameters}
 use Rattle.py_language.specs.Forms.{Forms, FormsOneOf, AreOfSorts}
-use Rattle.py_language.proofs.SortLaws.{sorts_single, sorts_then, sorts_separated}
+use Rattle.py_language.proofs.SortLaws.{sorts_single, sorts_separated}
 use Rattle.py_language.proofs.FormLaws.{form_wider, form_skipped, form_then, form_either, form_maybe, form_bracketed, forms_sole, forms_maybe, forms_then, forms_behind}
 use Rattle.py_grammar.specs.declared.entry.Entry.{Entry}
 use Rattle.py_grammar.specs.declared.entry.Entry.TheVariants as e
 use Rattle.py_grammar.specs.Terminals.{Terminal, Form, code}
 use Rattle.py_grammar.specs.Words as words
-use Rattle.py_grammar.specs.Nodes.{first_text, second_text, plain_leaf, Token, As, CommaRest, InParentheses}
-use Rattle.py_grammar.specs.Expressions.{Star, Element}
+use Rattle.py_grammar.specs.Nodes.{first_text, second_text}
+use Rattle.py_grammar.specs.Expressions.{Element}
 use Rattle.py_grammar.specs.Headers.{ParameterAnnotation, StarAnnotation, Parameter, Parameters, ForHeader, ExceptHeader, ExceptStarHeader, WithItem, PlainWith, ParenthesizedWith, FunctionHeader, ClassHeader, Subject, MatchHeader, CaseHeader, DecoratorLine}
 use Rattle.py_grammar.specs.HeaderParts.{sorts_of}
 use Rattle.py_grammar.proofs.ShapeBasics.{IsA, other, behind, a_node, a_named_node, with_commas, joined_by_commas, first_and_rest, form_perhaps, forms_as, expression_is_value}

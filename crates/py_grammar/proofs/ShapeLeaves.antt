@@ -1,10 +1,8 @@
 -- Tokens that are nodes are in shape, of the sorts that their sets say.
-use Rattle.std.proofs.Common.{◌≡◌, ℕ, Bool, true, false, List, [], ◌∷◌, ◌++◌, inl, inr, refl, Option, Some, None}
+use Rattle.std.proofs.Common.{◌≡◌, ℕ, true, false, List, [], inl, inr, refl}
 use Rattle.lint_values.specs.declared.place.Pos.{Pos}
 use Rattle.tree_nodes.specs.declared.kind.Kind.{Kind}
-use Rattle.tree_nodes.specs.declared.kind.Kind.TheVariants as kinds
-use Rattle.tree_nodes.specs.Trees.{Node}
-use Rattle.tree_nodes.specs.Sorts.{Sort, constant, name_read, other_expression, comparison_operator, shift_operator, sum_operator, product_operator, other_operator, sort_of, is_named, IsOf, only, expression, augmented_operator}
+use Rattle.tree_nodes.specs.Sorts.{Sort, constant, name_read, comparison_operator, shift_operator, sum_operator, product_operator, sort_of, is_named, IsOf, only, expression, augmented_operator}
 use Rattle.tree_nodes.specs.Shapes.{FitsOneOf, shape}
 use Rattle.tree_nodes.specs.Shaped.{HasShape}
 use Rattle.py_language.specs.Sets.{mem}

@@ -1,30 +1,28 @@
 -- Each form of an expression spells trees in shape: arguments, slices, trailers, literals, atoms, and the rows of
 -- operators up to a test.
-use Rattle.std.proofs.Common.{◌≡◌, ℕ, Bool, true, false, if◌then◌else◌, List, [], ◌∷◌, ◌++◌, inl, inr, refl}
+use Rattle.std.proofs.Common.{◌≡◌, Bool, true, false, if◌then◌else◌, List, [], ◌∷◌, ◌++◌, inl, inr, refl}
 use Rattle.tree_nodes.specs.declared.kind.Kind.{Kind}
 use Rattle.tree_nodes.specs.declared.kind.Kind.TheVariants as kinds
-use Rattle.tree_nodes.specs.Trees.{Tree, pack}
-use Rattle.tree_nodes.specs.Sorts.{Sort, starred, constant, star_argument, double_star_argument, slice, slice_colon, slices, field, comparison_operator, shift_operator, sum_operator, product_operator, annotation, star_annotation, positional_only_mark, double_star_parameter, other_expression, sort_of, is_named, IsOf, AreOf, only, expression, value}
-use Rattle.tree_nodes.specs.Shapes.{Part, Fits, FitsOneOf, one, maybe, many, some, shape, arguments, subscripts, operands_between, later_parameters, behind_parameters}
-use Rattle.tree_nodes.specs.Shaped.{kinds_of, AreShaped}
-use Rattle.py_language.specs.Languages.{Then, Either, Maybe, Many, Made, Where, whole}
+use Rattle.tree_nodes.specs.Sorts.{Sort, constant, slice, slice_colon, field, comparison_operator, shift_operator, sum_operator, product_operator, annotation, star_annotation, other_expression, sort_of, is_named, IsOf, only, expression, value}
+use Rattle.tree_nodes.specs.Shapes.{Part, Fits, FitsOneOf, one, maybe, many, shape, arguments, subscripts, behind_parameters}
+use Rattle.py_language.specs.Languages.{Either, Where}
 use Rattle.py_language.specs.Forms.{Forms, FormsOneOf, AreOfSorts}
 use Rattle.py_language.proofs.KindLaws.{single_possible}
-use Rattle.py_language.proofs.SortLaws.{sorts_single, sorts_row, sorts_wider, sorts_then, sorts_maybe, sorts_separated}
-use Rattle.py_language.proofs.FormLaws.{form_as, form_wider, form_skipped, form_then, form_either, form_maybe, form_many, form_bracketed, form_where, form_tested, form_steps, form_node, form_whole, forms_sole, forms_then, forms_behind, forms_maybe, form_nothing}
+use Rattle.py_language.proofs.SortLaws.{sorts_single, sorts_then, sorts_maybe, sorts_separated}
+use Rattle.py_language.proofs.FormLaws.{form_as, form_wider, form_skipped, form_then, form_either, form_maybe, form_many, form_bracketed, form_tested, form_steps, form_node, forms_sole, forms_then, forms_behind, forms_maybe}
 use Rattle.py_grammar.specs.declared.entry.Entry.{Entry}
 use Rattle.py_grammar.specs.declared.entry.Entry.TheVariants as e
 use Rattle.py_grammar.specs.Terminals.{Terminal, Form, code, is_one_of, first_of}
 use Rattle.py_grammar.specs.declared.symbol.Symbol.TheVariants as s
 use Rattle.py_grammar.specs.Words as words
-use Rattle.py_grammar.specs.Nodes.{first_text, second_text, last_text, plain_leaf, Token, Leaf, As, Called, Commas, CommaRest}
+use Rattle.py_grammar.specs.Nodes.{first_text, second_text, last_text, plain_leaf, Leaf, Commas, CommaRest}
 use Rattle.py_grammar.specs.Tests.{in_order}
 use Rattle.py_grammar.specs.Expressions.{sign_node, StarredArgument, PlainArgument, Argument, Arguments, CallArguments, SliceRest, Slice, StarredSlice, Slices, Trailed, FieldExpression, InnerField, Field, StringPart, Strings, Atom, Primary, Awaited, Power, Factor, Term, Arith, Shift, BitAnd, BitXor, BitOr, ComparisonSign, Comparison, Not, And, Or, LambdaParameter, LambdaParameters, Lambda, Test}
 use Rattle.py_grammar.specs.Patterns.{is_unformatted}
 use Rattle.py_grammar.specs.HeaderParts.{sorts_of}
-use Rattle.py_grammar.proofs.ShapeBasics.{IsA, expression_is_value, other, behind, a_node, a_node_of, a_named_node, operands, operands_with, behind_comma, first_and_some, forms_same, forms_as, and_none, none_and, form_perhaps, no_trees}
+use Rattle.py_grammar.proofs.ShapeBasics.{IsA, expression_is_value, other, behind, a_node, a_node_of, a_named_node, operands, operands_with, behind_comma, first_and_some, forms_same, and_none, none_and}
 use Rattle.py_grammar.proofs.ShapeLeaves.{a_plain_leaf, is_simple_atom, is_comparison_operator, is_shift_operator, is_sum_operator, is_product_operator}
-use Rattle.py_grammar.proofs.ShapeBrackets.{held, held_row, held_in, held_maybe, first_and_more, argument, plain_argument, order_fits, are_call_arguments}
+use Rattle.py_grammar.proofs.ShapeBrackets.{held_row, held_in, held_maybe, first_and_more, argument, plain_argument, order_fits, are_call_arguments}
 use Rattle.py_grammar.proofs.ShapeParameters.{parameters, are_parameters, perhaps_parameters, a_star}
 use Rattle.py_grammar.proofs.ShapeStrings.{are_literals, are_unformatted}
 use Rattle.py_grammar.proofs.ShapeExpressions as forms

@@ -1,24 +1,23 @@
 -- Parameters in order have the form of parameters, where those behind a star are given by keyword alone.
-use Rattle.std.proofs.Common.{◌≡◌, ℕ, ◌||◌, ◌⊎◌, Bool, true, false, if◌then◌else◌, List, [], ◌∷◌, ◌++◌, inl, inr, refl, sym, ap, subst, ◌∙◌, Option, Some, None}
+use Rattle.std.proofs.Common.{◌≡◌, ℕ, ◌||◌, Bool, true, false, if◌then◌else◌, List, [], ◌∷◌, ◌++◌, inl, inr, refl, ap, subst, ◌∙◌, Option, Some, None}
 use Rattle.lint_values.specs.declared.place.Pos.{Pos}
 use Rattle.tree_nodes.specs.declared.kind.Kind.{Kind}
 use Rattle.tree_nodes.specs.declared.kind.Kind.TheVariants as kinds
-use Rattle.tree_nodes.specs.Trees.{Node, Trees, Tree, pack}
+use Rattle.tree_nodes.specs.Trees.{Trees, Tree, pack}
 use Rattle.tree_nodes.specs.Sorts.{Sort, annotation, star_annotation, parameter, positional_only_mark, keyword_only_mark, star_parameter, keyword_only_parameter, double_star_parameter, sort_of, is_named, IsOf, AreOf, only}
-use Rattle.tree_nodes.specs.Shapes.{Part, a_row, Fits, FitsOneOf, one, maybe, many, some, shape, later_parameters, behind_parameters}
+use Rattle.tree_nodes.specs.Shapes.{Part, Fits, FitsOneOf, one, maybe, many, shape, behind_parameters}
 use Rattle.tree_nodes.specs.Shaped.{kinds_of, HasShape, AreShaped}
 use Rattle.py_language.specs.Languages.{Then, Maybe, Made, Where}
 use Rattle.py_language.specs.Forms.{Forms, FormsOneOf, AreOfSorts}
-use Rattle.py_language.proofs.KindLaws.{row_fits, fits_row}
 use Rattle.py_language.proofs.FormLaws.{form_made}
 use Rattle.py_grammar.specs.declared.stage.Stage.{Stage}
 use Rattle.py_grammar.specs.declared.stage.Stage.TheVariants as stages
 use Rattle.py_grammar.specs.Terminals.{Terminal, Form}
-use Rattle.py_grammar.specs.Tests.{kind_of, ends_with_default, behind_parameter, behind_slash, behind_star, behind_double_star, next_stage, may_end, parameters_from, parameters_in_order, keyword_only, is_star, with_keyword_only}
+use Rattle.py_grammar.specs.Tests.{ends_with_default, next_stage, may_end, parameters_from, parameters_in_order, keyword_only, is_star, with_keyword_only}
 use Rattle.py_grammar.specs.Words.{star as star_mark}
 use Rattle.py_grammar.specs.Nodes.{Token}
 use Rattle.py_grammar.specs.Expressions.{keyword_only_behind_star, star_parameter as star_node}
-use Rattle.py_grammar.proofs.ShapeBasics.{IsA, never, every, sorts_say, behind, form_perhaps, forms_same}
+use Rattle.py_grammar.proofs.ShapeBasics.{IsA, never, sorts_say, behind, form_perhaps, forms_same}
 use Rattle.py_grammar.proofs.ShapeBrackets.{AreGood, good_node, row_none, row_more}
 
 -- what a list of parameters has

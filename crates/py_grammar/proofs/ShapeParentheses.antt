@@ -1,24 +1,23 @@
 -- What round brackets hold is in shape: a row, a generator, or one tree alone, which is none that stands behind a star,
 -- since one behind a star has a comma.
-use Rattle.std.proofs.Common.{◌≡◌, ℕ, zero, suc, ◌+◌, ◌-◌, ◌⊎◌, ◌||◌, Bool, true, false, if◌then◌else◌, List, [], ◌∷◌, ◌++◌, length, slice_index_or, inl, inr, refl, sym, ap, arith, subst, ◌∙◌, append_assoc}
+use Rattle.std.proofs.Common.{◌≡◌, ℕ, ◌+◌, ◌-◌, ◌⊎◌, Bool, true, List, [], ◌∷◌, ◌++◌, length, inl, inr, refl, sym, ap, arith, subst, ◌∙◌, append_assoc}
 use Rattle.std.proofs.lemmas.List.{append-nil, length-append}
 use Rattle.std.proofs.Math.Seq.{get_or-append_seam}
-use Rattle.tree_nodes.specs.declared.kind.Kind.{Kind}
 use Rattle.tree_nodes.specs.declared.kind.Kind.TheVariants as kinds
-use Rattle.tree_nodes.specs.Trees.{Node, Tree, pack}
-use Rattle.tree_nodes.specs.Sorts.{Sort, comprehension_clause, sort_of, is_named, IsOf, AreOf, only, expression, value}
-use Rattle.tree_nodes.specs.Shapes.{Part, Fits, FitsOneOf, one, many, some, shape}
+use Rattle.tree_nodes.specs.Trees.{Tree, pack}
+use Rattle.tree_nodes.specs.Sorts.{Sort, sort_of, is_named, IsOf, AreOf, expression, value}
+use Rattle.tree_nodes.specs.Shapes.{Fits, one, some, shape}
 use Rattle.tree_nodes.specs.Shaped.{kinds_of, AreShaped}
 use Rattle.py_language.specs.Sets.{mem}
-use Rattle.py_language.specs.Languages.{Then, Either, Maybe, Bracketed, Made, Where, whole}
-use Rattle.py_language.specs.Forms.{Forms, FormsOneOf, AreOfSorts}
+use Rattle.py_language.specs.Languages.{Then, Either, Maybe, Bracketed, Made, whole}
+use Rattle.py_language.specs.Forms.{Forms, FormsOneOf}
 use Rattle.py_language.proofs.KindLaws.{row_fits}
 use Rattle.py_grammar.specs.Terminals.{Terminal, Form, code, no_terminal, last_but_one_of}
 use Rattle.py_grammar.specs.Words.{comma, left_paren, right_paren}
-use Rattle.py_grammar.specs.Nodes.{spanning, Token, Commas, CommaRest, InParentheses}
-use Rattle.py_grammar.specs.Expressions.{is_comprehension, ends_with_comma, has_own_comma, in_parentheses}
-use Rattle.py_grammar.proofs.ShapeBasics.{IsA, form_over, never, other, with_commas}
-use Rattle.py_grammar.proofs.ShapeBrackets.{AreGood, good_node, good_if, held, held_in, held_maybe, Holds, holds_elements, holds_clauses, what_is_held}
+use Rattle.py_grammar.specs.Nodes.{spanning, Commas, CommaRest, InParentheses}
+use Rattle.py_grammar.specs.Expressions.{ends_with_comma, has_own_comma, in_parentheses}
+use Rattle.py_grammar.proofs.ShapeBasics.{IsA, form_over, never, other}
+use Rattle.py_grammar.proofs.ShapeBrackets.{AreGood, good_node, good_if, held, held_in, Holds, holds_elements, holds_clauses, what_is_held}
 
 -- ---- the last token but one
 

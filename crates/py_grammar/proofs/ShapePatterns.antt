@@ -1,32 +1,31 @@
 -- Each form of a pattern spells trees in shape, of the sorts that stand in its place.
-use Rattle.std.proofs.Common.{◌≡◌, ℕ, Bool, true, false, if◌then◌else◌, List, [], ◌∷◌, ◌++◌, inl, inr, refl, sym, ap, subst, ◌∙◌, Option, Some, None}
+use Rattle.std.proofs.Common.{◌≡◌, ℕ, Bool, true, false, List, [], ◌∷◌, ◌++◌, inl, inr, refl, sym, ap, Option}
 use Rattle.std.proofs.lemmas.List.{append-nil}
 use Rattle.lint_values.specs.declared.place.Pos.{Pos}
 use Rattle.tree_nodes.specs.declared.kind.Kind.{Kind}
 use Rattle.tree_nodes.specs.declared.kind.Kind.TheVariants as kinds
-use Rattle.tree_nodes.specs.Trees.{Node, Trees, Tree, pack}
-use Rattle.tree_nodes.specs.Sorts.{Sort, constant, minus, sum_row, name_read, attribute_read, sum_operator, pattern, star_pattern, match_item, match_rest, match_keyword, sort_of, is_named, IsOf, AreOf, only, expression, compared}
-use Rattle.tree_nodes.specs.Shapes.{Part, a_row_of_pairs, Fits, FitsOneOf, one, maybe, many, some, shape}
+use Rattle.tree_nodes.specs.Trees.{Trees, Tree, pack}
+use Rattle.tree_nodes.specs.Sorts.{Sort, constant, minus, name_read, attribute_read, sum_operator, pattern, star_pattern, match_item, match_rest, match_keyword, sort_of, is_named, IsOf, only, expression, compared}
+use Rattle.tree_nodes.specs.Shapes.{a_row_of_pairs, Fits, one, maybe, many, shape}
 use Rattle.tree_nodes.specs.Shaped.{kinds_of, AreShaped}
-use Rattle.py_language.specs.Languages.{Then, Either, Maybe, Many, Made, Where, Bracketed, whole, row}
+use Rattle.py_language.specs.Languages.{Then, Either, Maybe, Many, Where, Bracketed, whole}
 use Rattle.py_language.specs.Forms.{Forms, AreOfSorts}
-use Rattle.py_language.proofs.KindLaws.{two_between, single_wider}
-use Rattle.py_language.proofs.SortLaws.{sorts_single, sorts_wider, sorts_then, sorts_either, sorts_maybe, sorts_separated, sorts_bracketed}
-use Rattle.py_language.proofs.FormLaws.{form_as, form_wider, form_skipped, form_then, form_either, form_pairs, form_where, form_tested, form_steps, form_made, form_row, form_bracketed}
+use Rattle.py_language.proofs.KindLaws.{two_between}
+use Rattle.py_language.proofs.SortLaws.{sorts_single, sorts_then, sorts_either, sorts_maybe, sorts_separated, sorts_bracketed}
+use Rattle.py_language.proofs.FormLaws.{form_wider, form_skipped, form_then, form_either, form_pairs, form_where, form_tested, form_steps, form_made, form_row}
 use Rattle.py_grammar.specs.declared.entry.Entry.{Entry}
 use Rattle.py_grammar.specs.declared.entry.Entry.TheVariants as e
 use Rattle.py_grammar.specs.declared.symbol.Symbol.TheVariants as symbols
 use Rattle.py_grammar.specs.Terminals.{Terminal, Form, code, is_one_of, first_of, second_of}
 use Rattle.py_grammar.specs.Words as words
-use Rattle.py_grammar.specs.Nodes.{spanning, called, first_text, second_text, last_text, atom_leaf, operator_leaf, Token, Leaf, As, Called, Commas, CommaRest, InParentheses}
-use Rattle.py_grammar.specs.Tests.{kind_of}
-use Rattle.py_grammar.specs.Expressions.{ends_with_comma, Strings}
-use Rattle.py_grammar.specs.Patterns.{is_complex, name_pattern, star_pattern as star_node, has_one_star, sequence_has_one_star, rest_is_last, keywords_behind_patterns, is_unformatted, is_dotted, SignedNumber, NumberPattern, Literal, Dotted, DottedName, ClassArgument, ClassArguments, NamePattern, StarPattern, SequenceItem, ParenthesizedPattern, BracketedPattern, MappingItem, MappingPattern, ClosedPattern, OrPattern, Pattern, OpenPatterns}
+use Rattle.py_grammar.specs.Nodes.{spanning, called, first_text, second_text, last_text, Commas, CommaRest, InParentheses}
+use Rattle.py_grammar.specs.Expressions.{ends_with_comma}
+use Rattle.py_grammar.specs.Patterns.{is_complex, name_pattern, star_pattern as star_node, sequence_has_one_star, rest_is_last, keywords_behind_patterns, is_dotted, SignedNumber, NumberPattern, Literal, Dotted, DottedName, ClassArgument, ClassArguments, NamePattern, StarPattern, SequenceItem, ParenthesizedPattern, BracketedPattern, MappingItem, MappingPattern, ClosedPattern, OrPattern, Pattern, OpenPatterns}
 use Rattle.py_grammar.specs.HeaderParts.{sorts_of}
-use Rattle.py_grammar.proofs.ShapeBasics.{IsA, never, behind, a_node, a_named_node, operands, behind_comma, IsWithin, form_within, no_trees, none_and, with_commas}
+use Rattle.py_grammar.proofs.ShapeBasics.{IsA, never, behind, a_node, a_named_node, operands, behind_comma, IsWithin, form_within, with_commas}
 use Rattle.py_grammar.proofs.ShapeBrackets.{AreGood, good_node, good_if}
 use Rattle.py_grammar.proofs.ShapeLeaves.{is_number, is_constant_word, is_name, is_sum_operator}
-use Rattle.py_grammar.proofs.ShapeParentheses.{IsLone, lone_either, lone_maybe, lone_first, lone_with_comma}
+use Rattle.py_grammar.proofs.ShapeParentheses.{lone_either, lone_maybe, lone_first, lone_with_comma}
 use Rattle.py_grammar.proofs.ShapeSequences.{items, a_sequence, an_open_sequence, a_pattern_parenthesis, mapping_items, rest_fits, class_items, class_fits}
 use Rattle.py_grammar.proofs.ShapeOperators as operators
 

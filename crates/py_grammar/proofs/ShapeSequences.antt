@@ -1,23 +1,23 @@
 -- Rows of patterns are in shape: sequences with at most one star, items of mappings with the rest last, and the arguments
 -- of a class with keywords last.
-use Rattle.std.proofs.Common.{◌≡◌, ℕ, zero, suc, ◌+◌, ◌<◌, ◌&&◌, Bool, true, false, if◌then◌else◌, List, [], ◌∷◌, ◌++◌, inl, inr, refl, sym, ap, arith, subst, ◌∙◌}
+use Rattle.std.proofs.Common.{◌≡◌, ◌+◌, ◌<◌, Bool, true, false, if◌then◌else◌, List, [], ◌∷◌, ◌++◌, inl, inr, refl, sym, ap, arith, ◌∙◌}
 use Rattle.std.proofs.lemmas.Bool.{ltb-true}
 use Rattle.tree_nodes.specs.declared.kind.Kind.{Kind}
 use Rattle.tree_nodes.specs.declared.kind.Kind.TheVariants as kinds
-use Rattle.tree_nodes.specs.Trees.{Node, Tree, pack, unpack}
+use Rattle.tree_nodes.specs.Trees.{Tree, pack, unpack}
 use Rattle.tree_nodes.specs.Sorts.{Sort, pattern, star_pattern, match_item, match_rest, match_keyword, sort_of, is_named, IsOf, AreOf, only}
-use Rattle.tree_nodes.specs.Shapes.{Part, Fits, FitsOneOf, one, maybe, many, shape}
+use Rattle.tree_nodes.specs.Shapes.{Part, Fits, one, maybe, many, shape}
 use Rattle.tree_nodes.specs.Shaped.{kinds_of, AreShaped}
 use Rattle.py_language.specs.Languages.{Made, Where, whole}
-use Rattle.py_language.specs.Forms.{Forms, AreOfSorts}
+use Rattle.py_language.specs.Forms.{AreOfSorts}
 use Rattle.py_language.proofs.KindLaws.{row_fits}
 use Rattle.py_language.proofs.FormLaws.{form_tested}
-use Rattle.py_grammar.specs.Terminals.{Terminal, Form, code}
+use Rattle.py_grammar.specs.Terminals.{Terminal, Form}
 use Rattle.py_grammar.specs.Words.{left_paren, right_paren}
 use Rattle.py_grammar.specs.Nodes.{spanning, As, InParentheses}
 use Rattle.py_grammar.specs.Expressions.{ends_with_comma}
-use Rattle.py_grammar.specs.Patterns.{is_star_pattern, count_stars, has_one_star, is_sequence, sequence_has_one_star, pattern_in_parentheses, is_rest, rest_is_last, is_keyword_pattern, keywords_are_last, keywords_behind_patterns}
-use Rattle.py_grammar.proofs.ShapeBasics.{IsA, never, none_and, a_node}
+use Rattle.py_grammar.specs.Patterns.{is_star_pattern, count_stars, has_one_star, sequence_has_one_star, pattern_in_parentheses, is_rest, rest_is_last, is_keyword_pattern, keywords_are_last, keywords_behind_patterns}
+use Rattle.py_grammar.proofs.ShapeBasics.{IsA, never, a_node}
 use Rattle.py_grammar.proofs.ShapeTargets.{both_true}
 use Rattle.py_grammar.proofs.ShapeBrackets.{AreGood, good_node, good_if, row_none, row_more}
 use Rattle.py_grammar.proofs.ShapeParentheses.{IsLone, lone_in}

@@ -1,17 +1,16 @@
 -- Each form of a simple statement spells one statement in shape.
-use Rattle.std.proofs.Common.{◌≡◌, ℕ, ◌&&◌, Bool, true, false, if◌then◌else◌, List, [], ◌∷◌, ◌++◌, inl, inr, refl, sym, ap, subst, ◌∙◌}
+use Rattle.std.proofs.Common.{◌≡◌, ℕ, ◌&&◌, Bool, true, false, if◌then◌else◌, List, [], ◌∷◌, ◌++◌, inl, inr, refl}
 use Rattle.lint_values.specs.declared.place.Pos.{Pos}
 use Rattle.tree_nodes.specs.declared.kind.Kind.{Kind}
 use Rattle.tree_nodes.specs.declared.kind.Kind.TheVariants as kinds
-use Rattle.tree_nodes.specs.Trees.{Node, Trees, Tree, pack}
-use Rattle.tree_nodes.specs.Sorts.{Sort, statement, annotation, alias, import_wildcard, as_name, declared_name, single_target, sort_of, is_named, IsOf, AreOf, only, expression, value, target, any_target, augmented_operator}
+use Rattle.tree_nodes.specs.Trees.{Tree, pack}
+use Rattle.tree_nodes.specs.Sorts.{statement, annotation, alias, import_wildcard, as_name, declared_name, single_target, sort_of, is_named, IsOf, AreOf, only, expression, value, target, any_target, augmented_operator}
 use Rattle.tree_nodes.specs.Shapes.{Part, Fits, FitsOneOf, one, maybe, many, some, shape}
 use Rattle.tree_nodes.specs.Shaped.{kinds_of, HasShape, AreShaped}
-use Rattle.py_language.specs.Sets.{mem}
-use Rattle.py_language.specs.Languages.{Then, Either, Maybe, Many, Made, Where, whole}
+use Rattle.py_language.specs.Languages.{Made, Where, whole}
 use Rattle.py_language.specs.Forms.{Forms, FormsOneOf, AreOfSorts}
 use Rattle.py_language.proofs.KindLaws.{row_fits, fits_row}
-use Rattle.py_language.proofs.SortLaws.{sorts_single, sorts_skipped, sorts_then, sorts_either, sorts_maybe, sorts_many, sorts_some}
+use Rattle.py_language.proofs.SortLaws.{sorts_skipped, sorts_then, sorts_either, sorts_maybe, sorts_many, sorts_some}
 use Rattle.py_language.proofs.FormLaws.{form_wider, form_skipped, form_shown, form_then, form_either, form_maybe, form_some, form_separated, form_bracketed, form_made, forms_sole, forms_either, forms_maybe, forms_then}
 use Rattle.py_grammar.specs.declared.symbol.Symbol.{Symbol}
 use Rattle.py_grammar.specs.declared.symbol.Symbol.TheVariants as s
@@ -19,11 +18,11 @@ use Rattle.py_grammar.specs.declared.entry.Entry.{Entry}
 use Rattle.py_grammar.specs.declared.entry.Entry.TheVariants as e
 use Rattle.py_grammar.specs.Terminals.{Terminal, Form, code}
 use Rattle.py_grammar.specs.Words as words
-use Rattle.py_grammar.specs.Nodes.{spanning, first_text, dotted_name, module_text, named_leaf, plain_leaf, Token, Leaf, As, Called, Joined}
-use Rattle.py_grammar.specs.Tests.{kind_of, is_bindable, is_group, are_targets, is_target, as_target, is_single, are_unstarred}
-use Rattle.py_grammar.specs.Statements.{targets_before_last, bound_before_last, is_single_first, bound_first, are_deletable, all_bound, assigned, augmented, annotated, deleted, lone_leaf, Value, Assign, AugAssign, AnnAssign, Return, Raise, Declaration, Delete, Assert, AsName, ModuleName, Import, ImportedName, ImportedNames, Source, ImportFrom, KeywordStatement, ValueStatement, Statement, Statements}
+use Rattle.py_grammar.specs.Nodes.{spanning, first_text, dotted_name, module_text, named_leaf, Leaf, As, Joined}
+use Rattle.py_grammar.specs.Tests.{is_bindable, is_group, are_targets, is_target, as_target, is_single, are_unstarred}
+use Rattle.py_grammar.specs.Statements.{targets_before_last, bound_before_last, is_single_first, bound_first, are_deletable, all_bound, lone_leaf, Value, Assign, AugAssign, AnnAssign, Return, Raise, Declaration, Delete, Assert, AsName, ModuleName, Import, ImportedName, ImportedNames, Source, ImportFrom, KeywordStatement, ValueStatement, Statement, Statements}
 use Rattle.py_grammar.specs.HeaderParts.{sorts_of}
-use Rattle.py_grammar.proofs.ShapeBasics.{IsA, never, expression_is_value, behind, a_node, a_node_of, a_named_node, a_named_node_of, with_commas, joined_by_commas, forms_as, no_trees}
+use Rattle.py_grammar.proofs.ShapeBasics.{IsA, never, expression_is_value, behind, a_node, a_node_of, a_named_node, a_named_node_of, with_commas, joined_by_commas, no_trees}
 use Rattle.py_grammar.proofs.ShapeTargets.{both_true, one_bound}
 use Rattle.py_grammar.proofs.ShapeBrackets.{AreGood, good_node, row_none, row_more}
 use Rattle.py_grammar.proofs.ShapeLeaves.{a_plain_leaf, a_named_leaf, is_augmented_operator}

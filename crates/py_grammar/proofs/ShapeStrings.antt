@@ -1,21 +1,20 @@
 -- Literals of strings are in shape: a string with no f has no fields.
 use Rattle.std.proofs.Common.{◌≡◌, ℕ, zero, suc, ◌||◌, Bool, true, false, if◌then◌else◌, List, [], ◌∷◌, ◌++◌, inl, inr, refl, sym, ap, subst, ◌∙◌, Option}
 use Rattle.lint_values.specs.declared.place.Pos.{Pos}
-use Rattle.tree_nodes.specs.declared.kind.Kind.{Kind}
 use Rattle.tree_nodes.specs.declared.kind.Kind.TheVariants as kinds
-use Rattle.tree_nodes.specs.Trees.{Node, Trees, Tree, pack}
-use Rattle.tree_nodes.specs.Sorts.{Sort, constant, other_expression, field, sort_of, is_named, IsOf, only}
+use Rattle.tree_nodes.specs.Trees.{Trees, Tree, pack}
+use Rattle.tree_nodes.specs.Sorts.{constant, other_expression, field, sort_of, is_named, IsOf, only}
 use Rattle.tree_nodes.specs.Shapes.{Fits, FitsOneOf, one, many, shape}
-use Rattle.tree_nodes.specs.Shaped.{kinds_of, AreShaped}
+use Rattle.tree_nodes.specs.Shaped.{kinds_of}
 use Rattle.py_language.specs.Sets.{mem}
 use Rattle.py_language.specs.Languages.{Then, Either, Times, Many, Some as OneOrMore, Made, Where, whole}
-use Rattle.py_language.specs.Forms.{Forms, AreOfSorts}
+use Rattle.py_language.specs.Forms.{AreOfSorts}
 use Rattle.py_language.proofs.SortLaws.{form_row_of, sorts_skipped, sorts_then, sorts_either, sorts_many, sorts_some}
 use Rattle.py_language.proofs.FormLaws.{form_either, form_wider, form_whole, forms_sole}
 use Rattle.py_grammar.specs.declared.symbol.Symbol.TheVariants as s
 use Rattle.py_grammar.specs.Terminals.{Terminal, Form, code, is_one_of}
 use Rattle.py_grammar.specs.Words.{plain_string, byte_string, format_string, format_string_end}
-use Rattle.py_grammar.specs.Nodes.{called, strings_text, Token, Called}
+use Rattle.py_grammar.specs.Nodes.{strings_text, Token, Called}
 use Rattle.py_grammar.specs.Expressions.{has_format, string_node}
 use Rattle.py_grammar.specs.Patterns.{is_unformatted}
 use Rattle.py_grammar.proofs.ShapeBasics.{IsA, never, a_named_node, no_trees}

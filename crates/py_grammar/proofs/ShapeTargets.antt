@@ -1,18 +1,18 @@
 -- An expression that can be bound is in shape as a target too: with the kind, the name and the kids of one.
-use Rattle.std.proofs.Common.{◌≡◌, ℕ, Bool, true, false, ◌&&◌, if◌then◌else◌, List, [], ◌∷◌, ◌++◌, inl, inr, refl, sym, ap, subst, ◌∙◌, Option, Some, None}
+use Rattle.std.proofs.Common.{◌≡◌, ℕ, Bool, true, false, ◌&&◌, if◌then◌else◌, List, [], ◌∷◌, inl, inr, refl, Option}
 use Rattle.lint_values.specs.declared.place.Pos.{Pos}
 use Rattle.tree_nodes.specs.declared.kind.Kind.{Kind}
 use Rattle.tree_nodes.specs.declared.kind.Kind.TheVariants as kinds
 use Rattle.tree_nodes.specs.Trees.{Node, Trees, none, tree, Tree, pack}
-use Rattle.tree_nodes.specs.Sorts.{Sort, single_target, group_target, starred_target, starred, sort_of, is_named, IsOf, AreOf, only, expression, value, target, any_target}
-use Rattle.tree_nodes.specs.Shapes.{Part, Fits, FitsOneOf, one, maybe, many, some, shape}
+use Rattle.tree_nodes.specs.Sorts.{Sort, single_target, starred, sort_of, is_named, IsOf, AreOf, only, expression, target, any_target}
+use Rattle.tree_nodes.specs.Shapes.{Part, Fits, FitsOneOf, one, shape}
 use Rattle.tree_nodes.specs.Shaped.{kinds_of, HasShape, AreShaped}
-use Rattle.py_language.proofs.KindLaws.{row_fits, fits_row, fits_single}
+use Rattle.py_language.proofs.KindLaws.{row_fits}
 use Rattle.py_language.proofs.FormLaws.{form_made}
 use Rattle.py_grammar.specs.Terminals.{Terminal, Form}
 use Rattle.py_grammar.specs.Expressions.{bound, is_one_target, Target}
-use Rattle.py_grammar.specs.Tests.{kind_of, target_kind, is_group, is_bindable, are_targets, is_target, target_node, as_targets, as_target, is_single}
-use Rattle.py_grammar.proofs.ShapeBasics.{IsA, never, every, sorts_say}
+use Rattle.py_grammar.specs.Tests.{is_group, is_bindable, are_targets, is_target, target_node, as_targets, as_target, is_single}
+use Rattle.py_grammar.proofs.ShapeBasics.{IsA, never, sorts_say}
 
 -- both of two truths
 pub both_true : (a b : Bool) → (a && b) ≡ true → (a ≡ true) × (b ≡ true)

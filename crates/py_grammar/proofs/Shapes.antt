@@ -2,23 +2,20 @@
 use Rattle.std.proofs.Common.{◌≡◌, ℕ, zero, suc, List, [], ◌∷◌, ◌++◌, inl, inr, refl}
 use Rattle.tree_nodes.specs.declared.kind.Kind.{Kind}
 use Rattle.tree_nodes.specs.Trees.{Tree, pack}
-use Rattle.tree_nodes.specs.Sorts.{Sort, statement, decorator as decorator_sort, with_item, annotation, as_name, pattern, AreOf, only, expression, value, any_target}
+use Rattle.tree_nodes.specs.Sorts.{statement, decorator as decorator_sort, with_item, annotation, as_name, pattern, AreOf, only, expression, value, any_target}
 use Rattle.tree_nodes.specs.Shapes.{Part, Fits, FitsOneOf, one, maybe, many, some, arguments, behind_parameters}
 use Rattle.tree_nodes.specs.Shaped.{kinds_of, AreShaped}
-use Rattle.py_language.specs.Languages.{Then, Maybe}
-use Rattle.py_language.specs.Forms.{Forms, FormsOneOf}
+use Rattle.py_language.specs.Forms.{FormsOneOf}
 use Rattle.py_language.proofs.KindLaws.{row_fits, fits_row}
-use Rattle.py_language.proofs.FormLaws.{form_nowhere, form_skipped, form_then, forms_sole, form_sole, forms_then, forms_behind}
+use Rattle.py_language.proofs.FormLaws.{form_nowhere, form_skipped, form_then, forms_sole, forms_then}
 use Rattle.py_grammar.specs.declared.entry.Entry.{Entry}
 use Rattle.py_grammar.specs.declared.entry.Entry.TheVariants as e
 use Rattle.py_grammar.specs.declared.head.Head.{Head}
 use Rattle.py_grammar.specs.declared.head.Head.TheVariants as heads
 use Rattle.py_grammar.specs.Terminals.{Terminal, Form, code}
 use Rattle.py_grammar.specs.Words as words
-use Rattle.py_grammar.specs.Nodes.{Token}
-use Rattle.py_grammar.specs.Statements.{Statements}
 use Rattle.py_grammar.specs.Headers.{ForHeader, ExceptHeader, ExceptStarHeader, PlainWith, ParenthesizedWith, FunctionHeader, ClassHeader, MatchHeader, CaseHeader}
-use Rattle.py_grammar.specs.Lines.{FormOf, PhraseWithin, LineForm, IsHeaded, Row, Fits as RowFits, FitsNowhere, headed, bare, decorator, simple, alone, with_test, async, with_items, simple_statements, Reads, IsLine}
+use Rattle.py_grammar.specs.Lines.{FormOf, PhraseWithin, LineForm, Row, Fits as RowFits, headed, bare, decorator, simple, alone, with_test, async, Reads, IsLine}
 use Rattle.py_grammar.specs.HeaderParts.{sorts_of, parts_of, body_of, IsLineShaped}
 use Rattle.py_grammar.proofs.ShapeBasics.{IsA, behind}
 use Rattle.py_grammar.proofs.ShapeExpressions as forms
