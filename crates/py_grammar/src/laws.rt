@@ -1,6 +1,7 @@
 // The laws of lines. Each stands as the contract of a function that does nothing.
 ghost use Rattle.std.specs.Prelude.{◌≡◌, ℕ, ◌+◌, ◌≤◌, ◌↔◌, List, Some};
 ghost use Rattle.py_language.specs.Brackets.{peak};
+ghost use Rattle.py_grammar.specs.HeaderParts.{IsLineShaped};
 ghost use Rattle.py_grammar.specs.Lines.{IsLine, LineForm};
 ghost use Rattle.py_grammar.specs.ReadingLines.{line_at, phrase_at};
 ghost use Rattle.py_grammar.specs.Terminals.{Terminal, code};
@@ -15,4 +16,10 @@ pub fn lines_are_unique()
 /// and nothing else.
 pub fn lines_are_read()
     ensures { (b : ℕ) (ts : List Terminal) (line : LineForm) → peak code opens closes 0 ts ≤ b → (line_at (phrase_at (201 + b)) ts ≡ Some line) ↔ IsLine ts line }
+{}
+
+/// The trees that a line spells are in shape: those of a header or decorator are the parts that stand before the block in its
+/// statement or clause, and those behind it are simple statements.
+pub fn lines_are_in_shape()
+    ensures { (ts : List Terminal) (line : LineForm) → IsLine ts line → IsLineShaped line }
 {}

@@ -9,6 +9,6 @@ mod symbol;
 
 pub use entry::Entry;
 pub use head::Head;
-pub use laws::{lines_are_read, lines_are_unique};
+pub use laws::{lines_are_in_shape, lines_are_read, lines_are_unique};
 pub use stage::Stage;
 pub use symbol::Symbol;
