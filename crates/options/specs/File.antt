@@ -7,11 +7,11 @@ use Rattle.std.specs.Str.{is_utf8}
 use Rattle.toml.specs.Data.{Data, Items, no_items, item, Members, no_members, member, as_array, as_bool, as_integer, as_str, as_table, get_member}
 use Rattle.toml.specs.Parse.{parse_document}
 use Rattle.option_words.specs.declared.option_name.OptionName.{OptionName}
+use Rattle.option_words.specs.declared.option_name.OptionName.TheVariants.{Disable, Enable, Jobs, Score, Ignore, Recursive, FailUnder, FailOn, ExitZero, IgnoredClasses, AdditionalBuiltins, LimitInferenceResults, MaxLineLength, MaxModuleLines, MaxArgs, MaxLocals, MaxReturns, MaxBranches, MaxStatements, MaxAttributes, MaxPublicMethods, MinPublicMethods, MaxParents}
 use Rattle.option_words.specs.declared.option_name.Kind.{Kind}
 use Rattle.option_words.specs.declared.option_name.Kind.TheVariants.{Flag, MessageNames, YesOrNo, Number, Hundredths, Texts, Path}
 use Rattle.option_words.specs.OptionNames.{is_named, kind, long_name}
 use Rattle.options.specs.declared.edits.Edit.{Edit}
-use Rattle.options.specs.declared.file.TheConstants.{FILE_OPTIONS}
 use Rattle.options.specs.declared.usage.UsageFault.{UsageFault}
 use Rattle.options.specs.declared.usage.UsageFault.TheVariants.{BadToml, BadValue}
 use Rattle.options.specs.Edits.{allows, edit_of}
@@ -56,9 +56,16 @@ keys_below option table = flat_map (keys_in option) (tables_in table)
 abbrev pub keys_of_option : Members → OptionName → List Key
 keys_of_option table option = keys_in option table ++ keys_below option table
 
--- all keys in the order in which they are read: by the names of their options, which ascend
+-- the options that a file may set, in the ascending order of their names
+abbrev pub file_options : List OptionName
+file_options =
+    AdditionalBuiltins ∷ Disable ∷ Enable ∷ ExitZero ∷ FailOn ∷ FailUnder ∷ Ignore ∷ IgnoredClasses ∷ Jobs
+    ∷ LimitInferenceResults ∷ MaxArgs ∷ MaxAttributes ∷ MaxBranches ∷ MaxLineLength ∷ MaxLocals ∷ MaxModuleLines
+    ∷ MaxParents ∷ MaxPublicMethods ∷ MaxReturns ∷ MaxStatements ∷ MinPublicMethods ∷ Recursive ∷ Score ∷ []
+
+-- all keys in the order in which they are read
 abbrev pub keys_of : Members → List Key
-keys_of table = flat_map (keys_of_option table) FILE_OPTIONS
+keys_of table = flat_map (keys_of_option table) file_options
 
 abbrev pub table_at : List ℕ → Members → Option Members
 table_at name members = option_and_then as_table (get_member name members)

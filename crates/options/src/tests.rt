@@ -1,2 +1,3 @@
 mod command_line;
 mod effects;
+mod options_file;

@@ -1,8 +1,7 @@
 -- Lines with the kind that Python's own parser gives them, computed from the readers of the definition: rows that
 -- tools/grammar_rows.py writes.
-use Rattle.std.specs.Prelude.{List, [], ◌∷◌, Option, Some, None, map}
+use Rattle.std.specs.Prelude.{List, [], ◌∷◌, Some, None, map}
 use Rattle.std.proofs.Common.{◌≡◌, refl}
-use Rattle.py_grammar.specs.declared.head.Head.{Head}
 use Rattle.py_grammar.specs.declared.head.Head.TheVariants as heads
 use Rattle.py_grammar.specs.declared.symbol.Symbol.TheVariants as s
 use Rattle.py_grammar.proofs.Trying.{Row, t, j, kind_of_line, said}

@@ -1,6 +1,6 @@
 -- How rows of the table of trees are tried: terminals with their columns and texts, and the nodes of a line in preorder.
 use Rattle.std.specs.Prelude.{ℕ, suc, List, [], ◌∷◌, ◌++◌, Option, Some, None}
-use Rattle.tree_nodes.specs.Trees.{Node, Trees, none, tree, pack}
+use Rattle.tree_nodes.specs.Trees.{Trees, none, tree, pack}
 use Rattle.tree_nodes.specs.declared.kind.Kind.{Kind}
 use Rattle.py_grammar.specs.declared.symbol.Symbol.{Symbol}
 use Rattle.py_grammar.specs.Terminals.{Terminal}

@@ -1,15 +1,15 @@
 -- Expressions: one form for each row of Python's grammar, from the loosest to the tightest. `self` gives the forms in
 -- which a phrase leads back to a looser row.
-use Rattle.std.specs.Prelude.{◌≡◌, ℕ, List, [], ◌∷◌, ◌++◌, Bool, true, false, ◌==◌, ◌||◌, ◌&&◌, if◌then◌else◌}
-use Rattle.tree_nodes.specs.Trees.{Node, Tree, pack}
+use Rattle.std.specs.Prelude.{List, [], ◌∷◌, Bool, true, false, ◌||◌, ◌&&◌, if◌then◌else◌}
+use Rattle.tree_nodes.specs.Trees.{Node, Tree}
 use Rattle.tree_nodes.specs.declared.kind.Kind.{Kind}
 use Rattle.tree_nodes.specs.declared.kind.Kind.TheVariants as kinds
-use Rattle.py_language.specs.Languages.{Then, Nothing, Either, Maybe, Many, Some as OneOrMore, Made, Where, Bracketed, Stepwise, whole, row}
+use Rattle.py_language.specs.Languages.{Then, Either, Maybe, Many, Some as OneOrMore, Made, Where, Bracketed, Stepwise, whole}
 use Rattle.py_grammar.specs.declared.symbol.Symbol.TheVariants as s
 use Rattle.py_grammar.specs.declared.entry.Entry.{Entry}
 use Rattle.py_grammar.specs.declared.entry.Entry.TheVariants as e
 use Rattle.py_grammar.specs.Terminals.{Terminal, Form, code, is_one_of, first_of, second_of, last_but_one_of}
-use Rattle.py_grammar.specs.Words.{name, number, plain_string, byte_string, format_string, format_string_end, field_open, field_close, simple_atom, and_word, async_word, await_word, else_word, for_word, from_word, if_word, in_word, is_word, lambda_word, not_word, or_word, yield_word, comma, colon, dot, assign, walrus, star, double_star, slash, bar, caret, ampersand, sign, shift_operator, sum_operator, product_operator, comparison_operator}
+use Rattle.py_grammar.specs.Words.{name, plain_string, byte_string, format_string, format_string_end, field_open, field_close, simple_atom, and_word, async_word, await_word, else_word, for_word, from_word, if_word, in_word, is_word, lambda_word, not_word, or_word, yield_word, colon, dot, assign, walrus, star, double_star, slash, bar, caret, ampersand, sign, shift_operator, sum_operator, product_operator, comparison_operator}
 use Rattle.py_grammar.specs.Nodes.{spanning, called, first_text, second_text, last_text, strings_text, atom_leaf, operator_leaf, plain_leaf, Token, Leaf, As, Called, Row, Commas, CommaRest, Tupled, InParentheses, InBrackets, InBraces}
 use Rattle.py_grammar.specs.Tests.{kind_of, in_order, parameters_in_order, with_keyword_only, is_target, as_target}
 

@@ -1,14 +1,11 @@
 -- The headers of compound statements and of their clauses, each up to its `:`, and decorators.
-use Rattle.std.specs.Prelude.{◌≡◌, ℕ, List, [], ◌∷◌}
 use Rattle.tree_nodes.specs.declared.kind.Kind.TheVariants as kinds
-use Rattle.py_language.specs.Languages.{Then, Nothing, Either, Maybe, Many, Made, Where, whole}
+use Rattle.py_language.specs.Languages.{Then, Either, Maybe, Made, Where}
 use Rattle.py_grammar.specs.declared.entry.Entry.{Entry}
 use Rattle.py_grammar.specs.declared.entry.Entry.TheVariants as e
-use Rattle.py_grammar.specs.declared.head.Head.{Head}
-use Rattle.py_grammar.specs.declared.head.Head.TheVariants as heads
-use Rattle.py_grammar.specs.Terminals.{Terminal, Form, code}
-use Rattle.py_grammar.specs.Words.{name, arrow, as_word, assign, async_word, at_sign, case_word, class_word, colon, def_word, double_star, elif_word, else_word, except_word, finally_word, for_word, if_word, in_word, match_word, slash, star, try_word, while_word, with_word}
-use Rattle.py_grammar.specs.Nodes.{spanning, called, first_text, second_text, plain_leaf, Token, Leaf, As, Called, Joined, Commas, CommaRest, Tupled, InParentheses}
+use Rattle.py_grammar.specs.Terminals.{Form}
+use Rattle.py_grammar.specs.Words.{name, arrow, as_word, assign, at_sign, case_word, class_word, colon, def_word, double_star, except_word, for_word, if_word, in_word, match_word, slash, star, with_word}
+use Rattle.py_grammar.specs.Nodes.{first_text, second_text, plain_leaf, Token, Leaf, As, Called, Joined, Commas, CommaRest, Tupled, InParentheses}
 use Rattle.py_grammar.specs.Tests.{parameters_in_order}
 use Rattle.py_grammar.specs.Expressions.{star_parameter, keyword_only_behind_star, Target, Named, Element, Star, Sx, TargetItem, Targets, Arguments}
 use Rattle.py_grammar.specs.Patterns.{OpenPatterns}

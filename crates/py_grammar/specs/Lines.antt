@@ -1,9 +1,7 @@
 -- Logical lines: simple statements, decorators, and headers with or without statements behind their `:`.
-use Rattle.std.specs.Prelude.{◌≡◌, ℕ, zero, suc, ◌≤◌, true, List, [], ◌∷◌, ◌++◌, ◌⊎◌, Option, Some, None}
+use Rattle.std.specs.Prelude.{◌≡◌, ℕ, zero, suc, ◌≤◌, true, List, [], ◌∷◌, ◌++◌, ◌⊎◌}
 use Rattle.tree_nodes.specs.Trees.{Tree}
-use Rattle.tree_nodes.specs.declared.kind.Kind.{Kind}
-use Rattle.tree_nodes.specs.declared.kind.Kind.TheVariants as kinds
-use Rattle.py_language.specs.Languages.{Then, Nothing, Either, Maybe}
+use Rattle.py_language.specs.Languages.{Then, Maybe}
 use Rattle.py_language.specs.Sets.{mem}
 use Rattle.py_language.specs.Nesting.{nesting_of}
 use Rattle.py_grammar.specs.declared.entry.Entry.{Entry}

@@ -1,9 +1,9 @@
 -- How tokens become nodes. A node begins where its first token begins and ends on the line of its last one.
-use Rattle.std.specs.Prelude.{ℕ, zero, suc, ◌+◌, ◌-◌, List, [], ◌∷◌, ◌++◌, Option, Some, None, Bool, true, false, ◌||◌, if◌then◌else◌}
-use Rattle.tree_nodes.specs.Trees.{Node, Tree}
+use Rattle.std.specs.Prelude.{ℕ, zero, suc, List, [], ◌∷◌, ◌++◌, Some, None, if◌then◌else◌}
+use Rattle.tree_nodes.specs.Trees.{Node}
 use Rattle.tree_nodes.specs.declared.kind.Kind.{Kind}
 use Rattle.tree_nodes.specs.declared.kind.Kind.TheVariants as kinds
-use Rattle.py_language.specs.Languages.{Then, Maybe, Many, Either, Shown, Skipped, Made, Separated, Bracketed, Some as OneOrMore, whole, row}
+use Rattle.py_language.specs.Languages.{Then, Maybe, Many, Either, Shown, Skipped, Made, Separated, Bracketed, whole, row}
 use Rattle.py_grammar.specs.declared.symbol.Symbol.{Symbol}
 use Rattle.py_grammar.specs.declared.symbol.Symbol.TheVariants as s
 use Rattle.py_grammar.specs.Terminals.{Terminal, Form, code, is_one_of, first_of, second_of, last_of}

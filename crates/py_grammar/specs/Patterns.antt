@@ -1,15 +1,15 @@
 -- Patterns of `case` clauses.
-use Rattle.std.specs.Prelude.{◌≡◌, ℕ, zero, suc, List, [], ◌∷◌, Option, Some, None, Bool, true, false, ◌+◌, ◌-◌, ◌==◌, ◌||◌, ◌&&◌, length, slice_index_or, if◌then◌else◌, nat_lt}
-use Rattle.tree_nodes.specs.Trees.{Node, Trees, none, tree, Tree, pack, unpack}
+use Rattle.std.specs.Prelude.{ℕ, List, [], ◌∷◌, Option, Some, None, Bool, true, false, ◌+◌, ◌-◌, ◌==◌, ◌||◌, ◌&&◌, length, slice_index_or, if◌then◌else◌, nat_lt}
+use Rattle.tree_nodes.specs.Trees.{Trees, none, tree, Tree, unpack}
 use Rattle.tree_nodes.specs.declared.kind.Kind.{Kind}
 use Rattle.tree_nodes.specs.declared.kind.Kind.TheVariants as kinds
-use Rattle.py_language.specs.Languages.{Then, Nothing, Either, Maybe, Many, Some as OneOrMore, Made, Where, Bracketed, Stepwise, whole, row}
+use Rattle.py_language.specs.Languages.{Then, Either, Maybe, Made, Where, Stepwise, whole, row}
 use Rattle.py_grammar.specs.declared.symbol.Symbol.TheVariants as s
 use Rattle.py_grammar.specs.declared.entry.Entry.{Entry}
 use Rattle.py_grammar.specs.declared.entry.Entry.TheVariants as e
-use Rattle.py_grammar.specs.Terminals.{Terminal, Form, code, is_one_of, first_of, second_of, last_but_one_of}
-use Rattle.py_grammar.specs.Words.{name, capture, number, constant_word, as_word, comma, colon, dot, assign, star, double_star, bar, minus, sum_operator}
-use Rattle.py_grammar.specs.Nodes.{spanning, called, first_text, second_text, last_text, named_leaf, plain_leaf, atom_leaf, operator_leaf, Token, Leaf, As, Called, Row, Joined, Commas, CommaRest, Tupled, InParentheses, InBrackets, InBraces}
+use Rattle.py_grammar.specs.Terminals.{Terminal, Form, is_one_of, first_of, second_of}
+use Rattle.py_grammar.specs.Words.{name, capture, number, constant_word, as_word, colon, dot, assign, star, double_star, bar, minus, sum_operator}
+use Rattle.py_grammar.specs.Nodes.{spanning, called, first_text, second_text, last_text, atom_leaf, operator_leaf, Token, Leaf, As, Called, Row, Commas, CommaRest, Tupled, InParentheses, InBrackets, InBraces}
 use Rattle.py_grammar.specs.Tests.{kind_of}
 use Rattle.py_grammar.specs.Expressions.{ends_with_comma, Strings}
 

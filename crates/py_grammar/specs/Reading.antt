@@ -1,16 +1,16 @@
 -- Reading expressions from the front: one reader for each form of Expressions. They only serve the laws on forms, and as the
 -- plain meaning of the parser.
-use Rattle.std.specs.Prelude.{ℕ, zero, suc, List, [], ◌∷◌, ◌++◌}
-use Rattle.tree_nodes.specs.Trees.{Node, Tree}
+use Rattle.std.specs.Prelude.{ℕ, List}
+use Rattle.tree_nodes.specs.Trees.{Node}
 use Rattle.tree_nodes.specs.declared.kind.Kind.{Kind}
 use Rattle.tree_nodes.specs.declared.kind.Kind.TheVariants as kinds
 use Rattle.py_language.specs.Languages.{whole, row}
-use Rattle.py_language.specs.Readers.{Read, Reader, Cont, both, nothing, choose, optional, shown, skipped, made, where_, many, some, separated, bracketed, choose_by_two, followed, extended, pick, maybe_more, in_turns}
+use Rattle.py_language.specs.Readers.{Reader, Cont, both, choose, optional, shown, skipped, made, where_, many, some, separated, bracketed, choose_by_two, followed, extended, pick, maybe_more, in_turns}
 use Rattle.py_grammar.specs.declared.entry.Entry.{Entry}
 use Rattle.py_grammar.specs.declared.entry.Entry.TheVariants as e
 use Rattle.py_grammar.specs.Terminals.{Terminal, code}
-use Rattle.py_grammar.specs.Words.{name, number, plain_string, byte_string, format_string, format_string_end, field_open, field_close, simple_atom, and_word, async_word, await_word, else_word, for_word, from_word, if_word, in_word, is_word, lambda_word, not_word, or_word, yield_word, left_paren, right_paren, left_bracket, right_bracket, left_brace, right_brace, comma, colon, dot, assign, walrus, star, double_star, slash, bar, caret, ampersand, sign, shift_operator, sum_operator, product_operator, comparison_operator}
-use Rattle.py_grammar.specs.Firsts.{string_first, strings_first, element_first, target_first, value_first, unpacked_first, brace_first, starred_first, argument_first, slice_first, slices_first, trailer_first, clause_first, clause_or_comma, comparison_first, parameter_first, test_first}
+use Rattle.py_grammar.specs.Words.{name, plain_string, byte_string, format_string, format_string_end, field_open, field_close, simple_atom, and_word, async_word, await_word, else_word, for_word, from_word, if_word, in_word, is_word, lambda_word, not_word, or_word, yield_word, left_paren, right_paren, left_bracket, right_bracket, left_brace, right_brace, comma, colon, dot, assign, walrus, star, double_star, slash, bar, caret, ampersand, sign, shift_operator, sum_operator, product_operator, comparison_operator}
+use Rattle.py_grammar.specs.Firsts.{string_first, strings_first, element_first, target_first, value_first, unpacked_first, brace_first, starred_first, argument_first, slices_first, trailer_first, clause_first, clause_or_comma, comparison_first, parameter_first, test_first}
 use Rattle.py_grammar.specs.Nodes.{spanning, called, first_text, second_text, last_text, strings_text, atom_leaf, operator_leaf, plain_leaf}
 use Rattle.py_grammar.specs.Tests.{in_order, parameters_in_order}
 use Rattle.py_grammar.specs.Expressions.{in_parentheses, in_brackets, in_braces, are_alike, call_arguments, are_arguments, string_node, sign_node, star_parameter, keyword_only_behind_star, bound, is_one_target}

@@ -1,10 +1,9 @@
 -- Reading headers from the front: one reader for each form of Headers.
-use Rattle.std.specs.Prelude.{ℕ, List, [], ◌∷◌, ◌++◌}
 use Rattle.tree_nodes.specs.declared.kind.Kind.TheVariants as kinds
-use Rattle.py_language.specs.Readers.{both, choose, optional, made, where_, many}
+use Rattle.py_language.specs.Readers.{both, choose, optional, made, where_}
 use Rattle.py_grammar.specs.declared.entry.Entry.{Entry}
 use Rattle.py_grammar.specs.declared.entry.Entry.TheVariants as e
-use Rattle.py_grammar.specs.Terminals.{Terminal, code}
+use Rattle.py_grammar.specs.Terminals.{code}
 use Rattle.py_grammar.specs.Words.{name, arrow, as_word, assign, at_sign, case_word, class_word, colon, def_word, double_star, except_word, for_word, if_word, in_word, match_word, slash, star, with_word, left_paren}
 use Rattle.py_grammar.specs.Firsts.{test_first, argument_first, element_first, parameter_first}
 use Rattle.py_grammar.specs.Nodes.{first_text, second_text, plain_leaf}

@@ -1,14 +1,13 @@
 -- Reading patterns from the front: one reader for each form of Patterns.
-use Rattle.std.specs.Prelude.{ℕ, List, [], ◌∷◌, ◌++◌}
 use Rattle.tree_nodes.specs.declared.kind.Kind.TheVariants as kinds
 use Rattle.py_language.specs.Languages.{whole, row}
-use Rattle.py_language.specs.Readers.{Cont, both, nothing, choose, optional, made, where_, many, choose_by_two, followed, extended, pick, finished, maybe_more, in_turns}
+use Rattle.py_language.specs.Readers.{both, choose, optional, made, where_, choose_by_two, followed, extended, pick, finished, maybe_more, in_turns}
 use Rattle.py_grammar.specs.declared.entry.Entry.{Entry}
 use Rattle.py_grammar.specs.declared.entry.Entry.TheVariants as e
-use Rattle.py_grammar.specs.Terminals.{Terminal, code}
+use Rattle.py_grammar.specs.Terminals.{code}
 use Rattle.py_grammar.specs.Words.{name, capture, number, constant_word, as_word, left_paren, left_bracket, comma, colon, dot, assign, star, double_star, bar, minus, sum_operator}
 use Rattle.py_grammar.specs.Firsts.{strings_first, signed_first, literal_first, pattern_first, sequence_first, mapping_first}
-use Rattle.py_grammar.specs.Nodes.{spanning, called, first_text, second_text, last_text, atom_leaf, operator_leaf}
+use Rattle.py_grammar.specs.Nodes.{spanning, called, second_text, last_text, atom_leaf, operator_leaf}
 use Rattle.py_grammar.specs.Patterns.{is_complex, name_pattern, star_pattern, has_one_star, sequence_has_one_star, pattern_in_parentheses, rest_is_last, keywords_behind_patterns, is_unformatted, is_dotted}
 use Rattle.py_grammar.specs.Reading.{LineReader, token, leaf, as_, called_, row_, commas, comma_rest, tupled, parenthesized, bracketed_, braced, pair, strings_at}
 

@@ -1,14 +1,14 @@
 -- Reading simple statements from the front: one reader for each form of Statements.
-use Rattle.std.specs.Prelude.{ℕ, List, [], ◌∷◌, ◌++◌}
+use Rattle.std.specs.Prelude.{◌++◌}
 use Rattle.tree_nodes.specs.declared.kind.Kind.TheVariants as kinds
 use Rattle.py_language.specs.Languages.{whole}
-use Rattle.py_language.specs.Readers.{Cont, both, choose, optional, made, where_, many, some, separated, followed, extended, extended_where, pick, finished, maybe_more}
+use Rattle.py_language.specs.Readers.{both, choose, optional, made, where_, many, some, separated, followed, extended_where, pick, finished}
 use Rattle.py_grammar.specs.declared.entry.Entry.{Entry}
 use Rattle.py_grammar.specs.declared.entry.Entry.TheVariants as e
-use Rattle.py_grammar.specs.Terminals.{Terminal, code}
+use Rattle.py_grammar.specs.Terminals.{code}
 use Rattle.py_grammar.specs.Words.{name, as_word, assert_word, del_word, from_word, global_word, import_word, nonlocal_word, raise_word, return_word, yield_word, lone_word, comma, colon, dot, dots, semicolon, assign, star, augmented_operator}
 use Rattle.py_grammar.specs.Firsts.{test_first, factor_first, element_first, keyword_statement_first, statement_first}
-use Rattle.py_grammar.specs.Nodes.{spanning, called, first_text, last_text, dotted_name, module_text, named_leaf, plain_leaf, operator_leaf}
+use Rattle.py_grammar.specs.Nodes.{spanning, first_text, dotted_name, module_text, named_leaf, plain_leaf, operator_leaf}
 use Rattle.py_grammar.specs.Statements.{targets_before_last, is_single_first, are_deletable, assigned, augmented, annotated, deleted, lone_leaf}
 use Rattle.py_grammar.specs.Reading.{LineReader, token, leaf, as_, called_, joined_, commas, parenthesized, yield_at, sx_at}
 

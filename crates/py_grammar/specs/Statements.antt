@@ -1,16 +1,16 @@
 -- Simple statements, and the lists of them that `;` joins.
-use Rattle.std.specs.Prelude.{◌≡◌, ℕ, List, [], ◌∷◌, ◌++◌, Bool, true, false, ◌==◌, ◌||◌, ◌&&◌, if◌then◌else◌}
-use Rattle.tree_nodes.specs.Trees.{Node, Trees, none, tree, Tree, pack}
+use Rattle.std.specs.Prelude.{List, [], ◌∷◌, Bool, true, false, ◌&&◌}
+use Rattle.tree_nodes.specs.Trees.{Node, Tree, pack}
 use Rattle.tree_nodes.specs.declared.kind.Kind.{Kind}
 use Rattle.tree_nodes.specs.declared.kind.Kind.TheVariants as kinds
-use Rattle.py_language.specs.Languages.{Then, Nothing, Either, Maybe, Many, Some as OneOrMore, Made, Where, Separated, whole}
+use Rattle.py_language.specs.Languages.{Then, Either, Maybe, Many, Some as OneOrMore, Made, Where, Separated, whole}
 use Rattle.py_grammar.specs.declared.symbol.Symbol.{Symbol}
 use Rattle.py_grammar.specs.declared.symbol.Symbol.TheVariants as s
 use Rattle.py_grammar.specs.declared.entry.Entry.{Entry}
 use Rattle.py_grammar.specs.declared.entry.Entry.TheVariants as e
-use Rattle.py_grammar.specs.Terminals.{Terminal, Form, code}
+use Rattle.py_grammar.specs.Terminals.{Terminal, Form}
 use Rattle.py_grammar.specs.Words.{name, as_word, assert_word, del_word, from_word, global_word, import_word, nonlocal_word, raise_word, return_word, lone_word, comma, colon, dot, dots, semicolon, assign, star, augmented_operator}
-use Rattle.py_grammar.specs.Nodes.{spanning, called, first_text, last_text, dotted_name, module_text, named_leaf, plain_leaf, operator_leaf, Token, Leaf, As, Called, Joined, Commas, InParentheses}
+use Rattle.py_grammar.specs.Nodes.{spanning, first_text, dotted_name, module_text, named_leaf, plain_leaf, operator_leaf, Token, Leaf, As, Called, Joined, Commas, InParentheses}
 use Rattle.py_grammar.specs.Tests.{kind_of, is_target, as_target, is_single, are_unstarred}
 use Rattle.py_grammar.specs.Expressions.{Sx, Yield}
 

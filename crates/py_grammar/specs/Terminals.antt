@@ -1,5 +1,5 @@
 -- The terminal symbols of a line: its tokens as the grammar reads them.
-use Rattle.std.specs.Prelude.{ℕ, List, [], ◌∷◌, ◌++◌, Bool, true, false, ◌==◌, ◌-◌, length, slice_index_or, if◌then◌else◌}
+use Rattle.std.specs.Prelude.{ℕ, List, [], Bool, ◌-◌, length, slice_index_or}
 use Rattle.lint_values.specs.declared.place.Pos.{Pos}
 use Rattle.py_language.specs.Languages.{Language}
 use Rattle.py_language.specs.Sets.{mem}

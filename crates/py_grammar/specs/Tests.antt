@@ -1,6 +1,6 @@
 -- Conditions on the parts of a form that speak of their order and their kinds.
-use Rattle.std.specs.Prelude.{ℕ, zero, suc, List, [], ◌∷◌, ◌++◌, Option, Some, None, Bool, true, false, not, ◌==◌, ◌&&◌, ◌||◌, ◌-◌, length, slice_index_or, if◌then◌else◌}
-use Rattle.tree_nodes.specs.Trees.{Node, Trees, none, tree, Tree, unpack}
+use Rattle.std.specs.Prelude.{ℕ, List, [], ◌∷◌, Option, Some, None, Bool, true, false, ◌==◌, ◌&&◌, ◌||◌, if◌then◌else◌}
+use Rattle.tree_nodes.specs.Trees.{Node, Trees, none, tree, Tree}
 use Rattle.tree_nodes.specs.declared.kind.Kind.{Kind}
 use Rattle.tree_nodes.specs.declared.kind.Kind.TheVariants as kinds
 use Rattle.py_grammar.specs.declared.stage.Stage.{Stage}

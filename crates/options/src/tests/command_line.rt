@@ -16,7 +16,7 @@ fn split(alloc: Global, words: &str) -> Result<Vec<Text>, Fail> {
     Ok(split)
 }
 
-fn push_edits(out: &mut String, edits: &[Edit]) -> Result<(), Fail> {
+pub(crate) fn push_edits(out: &mut String, edits: &[Edit]) -> Result<(), Fail> {
     for edit in edits {
         if !out.is_empty() {
             out.push_str(";")?;
