@@ -133,10 +133,7 @@ fn main(rt: HostRuntime) -> ExitCode {
     };
     let written = println!(rt;
         "sets {:016x}\nrefused {}\nevaluations {} and {}",
-        done.digest,
-        done.refused,
-        done.first,
-        done.second
+        done.digest, done.refused, done.first, done.second
     );
     match written {
         Ok(()) => ExitCode::SUCCESS,
