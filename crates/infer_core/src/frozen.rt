@@ -96,9 +96,11 @@ impl Frozen {
 fn missing_of(alloc: Global, table: &Table, variables: &[u64]) -> Result<Vec<u64>, Memory>
     ensures { IfOk result (λ v. v.items ≡ filter (λ q. not (map.contains_key table.now q)) variables.now) }
 {
-    Ok(variables
-        .iter()
-        .copied()
-        .filter(|var| table.find(*var).is_none())
-        .collect(alloc)?)
+    Ok(
+        variables
+            .iter()
+            .copied()
+            .filter(|var| table.find(*var).is_none())
+            .collect(alloc)?,
+    )
 }

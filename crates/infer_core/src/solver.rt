@@ -82,7 +82,7 @@ impl<'a, E: Equations> Solver<'a, E> {
         let mut work = Table::new(self.alloc);
         let base = Solved::new(self.base.table(), &self.own);
         match work_through(self.alloc, self.eqs, &base, &mut work, var, steps) {
-            Err(memory) => Err(memory),
+            Err(refused) => Err(refused),
             Ok(reached) => keep_all(&mut self.own, &mut work, &reached),
         }
     }

@@ -175,5 +175,5 @@ pub few-pairs : (ps qs : List (ℕ × ℕ)) → IsStrictlySortedBy pair_cmp ps �
 few-pairs ps qs h all =
     let laws = eq_by_cmp_equiv pair_cmp_total in
     let le = length-le_from_is_member laws ps (map turned qs) (IsDistinct-from_sorted pair_cmp ps h)
-        (λ q m. list_any-from_Contains laws q (map turned qs) (map-in turned (q.1, q.0) qs (all q.1 q.0 (Contains-from_any (tells_apart pair_cmp-exact) q ps m)))) in
+    (λ q m. list_any-from_Contains laws q (map turned qs) (map-in turned (q.1, q.0) qs (all q.1 q.0 (Contains-from_any (tells_apart pair_cmp-exact) q ps m)))) in
     subst (λ n. length ps ≤ n) (length-map qs turned) le

@@ -1,9 +1,8 @@
 -- What the rules read, one reading after another.
-use Rattle.std.proofs.Common.{◌≡◌, ℕ, Bool, true, false, cond, List, [], ◌∷◌, ◌++◌, IfOk, refl, sym, ◌∙◌, ap, subst}
-use Rattle.std.specs.Prelude.{Result, Ok, Err}
+use Rattle.std.proofs.Common.{◌≡◌, ℕ, true, false, cond, [], ◌∷◌, IfOk, sym, subst}
+use Rattle.std.specs.Prelude.{Result}
 use Rattle.std.proofs.lemmas.Result.{IfOk-weaker}
 use Rattle.infer_sets.specs.Sets.{Set, none, joined, is_below}
-use Rattle.infer_equations.specs.Assignment.{Assignment}
 use Rattle.infer_equations.specs.Seen.{Seen}
 use Rattle.infer_equations.specs.Reading.{Reads}
 use Rattle.infer_equations.proofs.Reading.{reads-pure, reads-map, reads-then}

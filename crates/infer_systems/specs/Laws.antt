@@ -1,15 +1,15 @@
 -- The rules of a small system are lawful: they rise, they keep within the limit, and they take variables of the system.
-use Rattle.std.proofs.Common.{◌≡◌, ℕ, ◌+◌, ◌<◌, ◌≤◌, ◌%◌, Bool, true, false, cond, List, [], ◌∷◌, ◌++◌, refl, sym, ◌∙◌, ap, subst, arith}
-use Rattle.std.specs.Prelude.{Some, None}
+use Rattle.std.proofs.Common.{◌≡◌, ℕ, ◌<◌, ◌%◌, Bool, true, false, cond, [], ◌∷◌, refl, arith}
+use Rattle.std.specs.Prelude.{None}
 use Rattle.std.specs.List.{All}
-use Rattle.std.proofs.lemmas.List.Elements.{All-push, All-append, All-nil, All-cons}
+use Rattle.std.proofs.lemmas.List.Elements.{All-append, All-nil, All-cons}
 use Rattle.infer_sets.specs.Sets.{Set, none, joined, is_below, Below, Fits}
 use Rattle.infer_sets.proofs.SetOrder.{below-refl, below-trans, below-none, fits-none, fits-None}
 use Rattle.infer_sets.proofs.Join.{joined-least, fits-joined, below-joined_left, below-joined_right, joined-rises}
 use Rattle.infer_equations.specs.Assignment.{Assignment, Within, AllFit}
 use Rattle.infer_systems.specs.declared.rule.Rule.{Rule}
 use Rattle.infer_systems.specs.declared.rule.Rule.TheVariants.{Nothing, Unknown, Value, Copy, More, Both, When}
-use Rattle.infer_systems.specs.Rules.{value_of, with_reads, both_right, both_reads, gated, gated_reads, when_right, when_reads, rule_right, rule_reads}
+use Rattle.infer_systems.specs.Rules.{value_of, rule_right, rule_reads}
 
 both-rise : (limit : ℕ) (s t u v : Set) → Below s t → Below u v → Below (joined limit s u) (joined limit t v)
 both-rise limit s t u v h k =

@@ -1,8 +1,6 @@
 -- What the rules of a small system say: the right side of each, and the variables that it takes.
-use Rattle.std.specs.Prelude.{ℕ, ◌%◌, cond, List, [], ◌∷◌, ◌++◌, Option, Some, None, slice_index_or}
+use Rattle.std.specs.Prelude.{ℕ, ◌%◌, cond, List, [], ◌∷◌, ◌++◌, Some, None, slice_index_or}
 use Rattle.std.specs.FinSet as set
-use Rattle.lint_values.specs.declared.place.FileId.{FileId}
-use Rattle.infer_sets.specs.declared.abs_val.AbsVal.{AbsVal}
 use Rattle.infer_sets.specs.declared.abs_val.AbsVal.TheVariants.{Module}
 use Rattle.infer_sets.specs.Sets.{Set, none, joined, is_below}
 use Rattle.infer_equations.specs.Assignment.{Assignment}

@@ -3,8 +3,9 @@ ghost use Rattle.infer_core.specs.Right.{IsRight};
 
 use crate::rule::Rule::{Both, Copy, More, Nothing, Unknown, Value, When};
 use crate::{Counted, Rule, System};
-use infer_core::{Equations, Frozen, Plain, Solver, Steps, least_solves};
-use infer_core::tables_cross_threads as cross_threads;
+use infer_core::{
+    Equations, Frozen, Plain, Solver, Steps, least_solves, tables_cross_threads as cross_threads,
+};
 use infer_sets::{AbsSet, AbsVal};
 use lint_values::{FileId, Memory};
 use std::alloc::Global;
@@ -383,7 +384,11 @@ const ROUNDS: [([Rule; 4], u64, u64, [u64; 4]); 5] = [
 fn tables_take_over_what_solvers_solved(rt: HostRuntime) -> Result<(), Fail> {
     let alloc = rt.alloc();
     for (rules, first, second, wanted) in ROUNDS {
-        assert_eq!(rt; rounds(alloc, rules, first, second)?, wanted, "{rules:?} {first} {second}");
+        assert_eq!(rt;
+            rounds(alloc, rules, first, second)?,
+            wanted,
+            "{rules:?} {first} {second}"
+        );
     }
     Ok(())
 }

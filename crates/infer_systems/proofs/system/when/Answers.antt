@@ -1,4 +1,4 @@
-use Rattle.std.proofs.Common.{rules, ◌≡◌, true, false, sym, ◌∙◌, ap}
+use Rattle.std.proofs.Common.{◌≡◌, true, false, sym, ◌∙◌, ap}
 use Rattle.infer_sets.specs.Sets.{none, is_below}
 use Rattle.infer_systems.proofs.Readings.{when-empty, when-some}
 use Rattle.infer_systems.proofs.system.when.Goals as goal

@@ -29,10 +29,10 @@ returns-clause-ok c =
     let all : c.len.result ≡ length c.in_ok-variables.variables.items = search rules in
     let few : c.len-2.result ≡ length c.in_ok-missing.missing.items = search rules in
     let added : c.len.result - c.len-2.result ≡ shared old.table c.args.overlay =
-        (λ i. all i - few i)
-        ∙ ap (λ n. n - length c.in_ok-missing.missing.items) (sym (ap length c.deref.ensures.value))
-        ∙ shared-rest old.table c.into_table-overlay.result c.deref.result.now c.in_ok-missing.missing.items c.in_ok-missing.ensures (c.deref.ensures.value ∙ c.in_ok-variables.ensures)
-        ∙ ap (λ m. shared old.table m) c.into_table-overlay.ensures in
+    (λ i. all i - few i)
+    ∙ ap (λ n. n - length c.in_ok-missing.missing.items) (sym (ap length c.deref.ensures.value))
+    ∙ shared-rest old.table c.into_table-overlay.result c.deref.result.now c.in_ok-missing.missing.items c.in_ok-missing.ensures (c.deref.ensures.value ∙ c.in_ok-variables.ensures)
+    ∙ ap (λ m. shared old.table m) c.into_table-overlay.ensures in
     let again : c.saturating_add-self-inside.result ≡ risen old.again (shared old.table c.args.overlay) = c.saturating_add-self-inside.ensures ∙ ap (λ n. risen old.again n) added in
     (λ i. record { sets = sets i; again = again i }) ∙ ap (λ (f : FrozenTable). merged f c.args.overlay) c.self.view_is
 

@@ -1,7 +1,6 @@
-use Rattle.std.proofs.Common.{rules, ◌≡◌, ◌∙◌, ap, subst, IfOk, ℕ}
+use Rattle.std.proofs.Common.{◌≡◌, ◌∙◌, ap, subst, IfOk}
 use Rattle.std.proofs.lemmas.Iterator.{items_from_collect}
 use Rattle.std.proofs.lemmas.Iterator.Consumers.{YieldsList-from_copied, YieldsList-from_rest}
-use Rattle.std.specs.Global.{Vec}
 use Rattle.std.specs.FinMap as map
 use Rattle.infer_equations.proofs.Entries.{keys-ascending}
 use Rattle.infer_equations.proofs.table.Table.variables.Goals as goal

@@ -11,8 +11,8 @@ pub returns : goal.returns
 returns c =
     let none : c.loop-pair.pair-iterator ≡ [] = search rules in
     let all : c.range-pair-items.result ≡ filter (of_var c.args.var) c.self.inside.pairs.keys =
-        c.range-pair-items.ensures.between (search rules)
-        ∙ (λ i. filter (range_contains pair_cmp (Included (c.new.ensures.start i)) (Included (c.new.ensures.end i))) c.self.inside.pairs.keys) in
+    c.range-pair-items.ensures.between (search rules)
+    ∙ (λ i. filter (range_contains pair_cmp (Included (c.new.ensures.start i)) (Included (c.new.ensures.end i))) c.self.inside.pairs.keys) in
     sym (append-nil c.loop-pair.pending.items)
     ∙ ap (λ (ps : List (ℕ × ℕ)). c.loop-pair.pending.items ++ map (λ (p : ℕ × ℕ). p.1) ps) (sym none)
     ∙ c.loop-pair.invariant

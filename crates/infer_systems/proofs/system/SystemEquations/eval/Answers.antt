@@ -1,4 +1,4 @@
-use Rattle.std.proofs.Common.{rules, ◌≡◌, ℕ, IfOk, length, subst}
+use Rattle.std.proofs.Common.{rules, ◌≡◌, IfOk, length, subst}
 use Rattle.std.proofs.lemmas.List.{get_or_read}
 use Rattle.infer_equations.specs.Reading.{Reads}
 use Rattle.infer_systems.specs.declared.rule.Rule.TheVariants.{Nothing}
