@@ -457,7 +457,10 @@ use Rattle.py_grammar.proofs.TryingTrees.{Row, at, n, nodes_of_line, said}
 
 def main():
     table = []
-    for line in LINES.strip("\n").split("\n"):
+    lines = LINES.strip("\n").split("\n")
+    # the lines of the other table that Python takes; in 3.11 `ast` tells no places within f-strings
+    lines += [line for line, _, head in grammar_rows.rows() if head and 'f"' not in line and line not in lines]
+    for line in lines:
         head = grammar_rows.accepted(line, grammar_rows.head_of(line))
         table.append((line, terminals(line), list(preorder(trees_of(line, head)))))
     readers = grammar_rows.names_of_readers()

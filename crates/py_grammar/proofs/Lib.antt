@@ -40,8 +40,17 @@ pub mod ShapeTargets
 pub mod Shapes
 pub mod Statements
 pub mod TreeRows1
+pub mod TreeRows10
+pub mod TreeRows11
+pub mod TreeRows12
 pub mod TreeRows2
 pub mod TreeRows3
+pub mod TreeRows4
+pub mod TreeRows5
+pub mod TreeRows6
+pub mod TreeRows7
+pub mod TreeRows8
+pub mod TreeRows9
 pub mod Trying
 pub mod TryingTrees
 pub mod Weighing

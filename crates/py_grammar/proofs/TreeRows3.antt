@@ -89,6 +89,10 @@ rows =
     record { line = at s.CaseWord 0 (99 ∷ 97 ∷ 115 ∷ 101 ∷ []) ∷ at s.Underscore 5 (95 ∷ []) ∷ at s.Bar 7 (124 ∷ []) ∷ at s.Name 9 (97 ∷ []) ∷ at s.Dot 10 (46 ∷ []) ∷ at s.Name 11 (98 ∷ []) ∷ at s.Colon 12 (58 ∷ []) ∷ []; nodes = n kinds.MatchOr 2 (Some 5) None ∷ n kinds.MatchWildcard 0 (Some 5) None ∷ n kinds.MatchValue 1 (Some 9) None ∷ n kinds.Attribute 1 (Some 9) (Some (98 ∷ [])) ∷ n kinds.Name 0 (Some 9) (Some (97 ∷ [])) ∷ [] } ∷
     -- case(a)
     record { line = at s.CaseWord 0 (99 ∷ 97 ∷ 115 ∷ 101 ∷ []) ∷ at s.LeftParen 4 (40 ∷ []) ∷ at s.Name 5 (97 ∷ []) ∷ at s.RightParen 6 (41 ∷ []) ∷ []; nodes = n kinds.ExpressionStatement 1 (Some 0) None ∷ n kinds.Call 2 (Some 0) None ∷ n kinds.Name 0 (Some 0) (Some (99 ∷ 97 ∷ 115 ∷ 101 ∷ [])) ∷ n kinds.Name 0 (Some 5) (Some (97 ∷ [])) ∷ [] } ∷
+    -- x
+    record { line = at s.Name 0 (120 ∷ []) ∷ []; nodes = n kinds.ExpressionStatement 1 (Some 0) None ∷ n kinds.Name 0 (Some 0) (Some (120 ∷ [])) ∷ [] } ∷
+    -- x.y(1)[2].z
+    record { line = at s.Name 0 (120 ∷ []) ∷ at s.Dot 1 (46 ∷ []) ∷ at s.Name 2 (121 ∷ []) ∷ at s.LeftParen 3 (40 ∷ []) ∷ at s.Number 4 (49 ∷ []) ∷ at s.RightParen 5 (41 ∷ []) ∷ at s.LeftBracket 6 (91 ∷ []) ∷ at s.Number 7 (50 ∷ []) ∷ at s.RightBracket 8 (93 ∷ []) ∷ at s.Dot 9 (46 ∷ []) ∷ at s.Name 10 (122 ∷ []) ∷ []; nodes = n kinds.ExpressionStatement 1 (Some 0) None ∷ n kinds.Attribute 1 (Some 0) (Some (122 ∷ [])) ∷ n kinds.Subscript 2 (Some 0) None ∷ n kinds.Call 2 (Some 0) None ∷ n kinds.Attribute 1 (Some 0) (Some (121 ∷ [])) ∷ n kinds.Name 0 (Some 0) (Some (120 ∷ [])) ∷ n kinds.NumberLiteral 0 (Some 4) (Some (49 ∷ [])) ∷ n kinds.NumberLiteral 0 (Some 7) (Some (50 ∷ [])) ∷ [] } ∷
     []
 
 -- each line has the nodes that are said
