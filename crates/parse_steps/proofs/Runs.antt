@@ -1,14 +1,11 @@
 -- Steps of the parser's functions, over a forest that grows.
-use Rattle.std.proofs.Common.{◌≡◌, ℕ, zero, suc, ◌+◌, ◌≤◌, ◌<◌, Bool, true, false, if◌then◌else◌, List, [], ◌∷◌, ◌++◌, length, take, drop, refl, sym, ap, subst, ◌∙◌, append_assoc, length-append, arith, Result, Ok, Err}
-use Rattle.std.proofs.lemmas.List.{append-nil, take_at, drop_at}
+use Rattle.std.proofs.Common.{◌≡◌, ℕ, Bool, true, false, if◌then◌else◌, List, [], ◌++◌, length, take, drop, refl, sym, ap, append_assoc}
+use Rattle.std.proofs.lemmas.List.{take_at, drop_at}
 use Rattle.tree_nodes.specs.Trees.{Tree}
-use Rattle.py_language.specs.Sets.{mem, at}
-use Rattle.py_language.specs.Readers.{Read, got, fails, Reader, behind, after, before, make, filter, both, nothing, choose, Cont, continue, extended, maybe_more}
+use Rattle.py_language.specs.Sets.{at}
+use Rattle.py_language.specs.Readers.{Read, got, fails, behind, after, before, make, filter, continue, extended, maybe_more}
 use Rattle.py_grammar.specs.Terminals.{Terminal, code}
 use Rattle.py_grammar.specs.Reading.{LineReader}
-use Rattle.py_forest.specs.declared.fault.Fault.{Fault}
-use Rattle.py_forest.specs.declared.fault.Fault.TheVariants as faults
-use Rattle.parse_steps.specs.Runs.{Failed, Reads}
 
 -- ---- equations with no premise: what was read behind other trees
 

@@ -1,9 +1,9 @@
 -- Tokens at places of a line.
-use Rattle.std.proofs.Common.{◌≡◌, ℕ, zero, suc, ◌+◌, ◌≤◌, ◌<◌, Bool, true, false, List, [], ◌∷◌, ◌++◌, length, get_or, drop, refl, sym, ap, ◌∙◌, arith}
+use Rattle.std.proofs.Common.{◌≡◌, ℕ, zero, suc, ◌+◌, ◌≤◌, true, false, List, [], ◌∷◌, length, get_or, drop, refl, ap, ◌∙◌, arith}
 use Rattle.std.proofs.lemmas.List.{drop_all}
-use Rattle.tree_nodes.specs.Trees.{Node, none, Tree}
-use Rattle.py_language.specs.Sets.{mem, at}
-use Rattle.py_language.specs.Readers.{Read, got, fails, shown, skipped}
+use Rattle.tree_nodes.specs.Trees.{Node, none}
+use Rattle.py_language.specs.Sets.{at}
+use Rattle.py_language.specs.Readers.{got, fails, shown, skipped}
 use Rattle.py_grammar.specs.Terminals.{Terminal, code, no_terminal}
 
 pub drop_one : {X : Type 0} → (n : ℕ) (xs : List X) → drop (n + 1) xs ≡ drop 1 (drop n xs)
