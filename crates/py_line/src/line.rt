@@ -4,7 +4,8 @@ ghost use Rattle.std.specs.Str.{IsUtf8};
 ghost use Rattle.py_language.specs.Sets.{mem, at as at_spec};
 ghost use Rattle.py_language.specs.Readers.{before, at_two as at_two_spec};
 ghost use Rattle.py_grammar.specs.Symbols.{number_of, set_of};
-ghost use Rattle.py_grammar.specs.Terminals.{code, no_terminal, first_of, last_of};
+ghost use Rattle.py_grammar.specs.Terminals.{code, no_terminal, first_of, second_of, last_of, last_but_one_of};
+ghost use Rattle.py_grammar.specs.Nodes.{first_text, second_text, last_text};
 ghost use Rattle.py_line.specs.Kept.{IsTextIn, within};
 
 use lint_values::{Memory, Pos};
@@ -180,6 +181,60 @@ impl Line {
                 end_line: 0,
             }
         }
+    }
+
+    /// How many symbols stand from `start` up to `rest`.
+    pub fn count(&self, start: usize, rest: usize) -> usize
+        ensures { result ≡ length (before (drop start self.now) (drop rest self.now)) }
+    {
+        rest.min(self.len()).saturating_sub(start)
+    }
+
+    /// Whether the first symbol from `start` up to `rest` is one of these.
+    pub fn first_is(&self, start: usize, rest: usize, set: &[Symbol]) -> bool
+        ensures { result ≡ mem (code (first_of (before (drop start self.now) (drop rest self.now)))) (set_of set.now) }
+    {
+        let symbol = if self.count(start, rest) > 0 { self.symbol(start) } else { Symbol::BadField };
+        is_among(symbol, set)
+    }
+
+    /// Whether the second symbol from `start` up to `rest` is one of these.
+    pub fn second_is(&self, start: usize, rest: usize, set: &[Symbol]) -> bool
+        ensures { result ≡ mem (code (second_of (before (drop start self.now) (drop rest self.now)))) (set_of set.now) }
+    {
+        let symbol = if self.count(start, rest) > 1 { self.symbol(start + 1) } else { Symbol::BadField };
+        is_among(symbol, set)
+    }
+
+    /// Whether the last symbol but one from `start` up to `rest` is one of these; of one symbol it is the first.
+    pub fn last_but_one_is(&self, start: usize, rest: usize, set: &[Symbol]) -> bool
+        ensures { result ≡ mem (code (last_but_one_of (before (drop start self.now) (drop rest self.now)))) (set_of set.now) }
+    {
+        let count = self.count(start, rest);
+        let symbol = if count > 0 { self.symbol(start + count.saturating_sub(2)) } else { Symbol::BadField };
+        is_among(symbol, set)
+    }
+
+    /// The text of the first symbol from `start` up to `rest`; of no symbols nothing.
+    pub fn first_text(&self, start: usize, rest: usize) -> &str
+        ensures { result.now ≡ first_text (before (drop start self.now) (drop rest self.now)) }
+    {
+        if self.count(start, rest) > 0 { self.text(start) } else { "" }
+    }
+
+    /// The text of the second symbol from `start` up to `rest`; of fewer than two nothing.
+    pub fn second_text(&self, start: usize, rest: usize) -> &str
+        ensures { result.now ≡ second_text (before (drop start self.now) (drop rest self.now)) }
+    {
+        if self.count(start, rest) > 1 { self.text(start + 1) } else { "" }
+    }
+
+    /// The text of the last symbol from `start` up to `rest`; of no symbols nothing.
+    pub fn last_text(&self, start: usize, rest: usize) -> &str
+        ensures { result.now ≡ last_text (before (drop start self.now) (drop rest self.now)) }
+    {
+        let count = self.count(start, rest);
+        if count > 0 { self.text(start + (count - 1)) } else { "" }
     }
 }
 
