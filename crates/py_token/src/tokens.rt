@@ -60,6 +60,13 @@ impl<'a> Tokens<'a> {
         }
     }
 
+    /// The text of the source, without a byte order mark.
+    pub fn source(&self) -> &'a str
+        ensures { result.now ≡ self.now.text }
+    {
+        self.text
+    }
+
     /// How many tokens there are.
     pub fn count(&self) -> usize
         ensures { result ≡ length self.now.tokens }
