@@ -12,3 +12,6 @@ mod token;
 
 pub use fault::LineFault;
 pub use line::{depth, terminals};
+
+#[cfg(test)]
+mod tests;
