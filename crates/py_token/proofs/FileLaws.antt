@@ -12,6 +12,7 @@ use Rattle.py_source.specs.Decoding.{IsFaultless, IsSourceFault, byte_order_mark
 use Rattle.py_token.specs.declared.fault.TokenFault.{TokenFault}
 use Rattle.py_token.specs.declared.fault.TokenFault.TheVariants.{At, Memory}
 use Rattle.py_token.specs.FirstFault.{IsFirstFault, IsTextFault}
+use Rattle.py_token.specs.Settings.{whole}
 use Rattle.py_token.specs.Tokenized.{OnFault}
 
 pub without_mark_le : (bytes : List ℕ) → length (without_mark bytes) ≤ length bytes
@@ -66,6 +67,6 @@ source_within bytes n NulByte fault = fault.1.within
 source_within bytes n Coding fault = coding_within (without_mark bytes) n fault.3
 
 -- the first fault of a text is that of its source, where the file as a whole has none
-pub of_source : (bytes : List ℕ) (fault : TokenFault) → IsFaultless bytes → OnFault (IsTextFault (without_mark bytes)) fault → OnFault (IsFirstFault bytes) fault
+pub of_source : (bytes : List ℕ) (fault : TokenFault) → IsFaultless bytes → OnFault (IsTextFault whole (without_mark bytes)) fault → OnFault (IsFirstFault bytes) fault
 of_source bytes (At pos cause) faultless first = inr (faultless, first)
 of_source bytes Memory faultless first = tt

@@ -1,5 +1,5 @@
 -- Where the tokens and the faults of a text stand.
-use Rattle.std.proofs.Common.{◌≡◌, ℕ, zero, suc, ◌+◌, ◌≤◌, ◌<◌, Bool, true, false, not, List, [], ◌∷◌, ◌++◌, length, take, drop, refl, sym, ap, ◌∙◌, subst, arith, append-nil, encode_utf8_all, chars, IsUtf8, ⊎_elim, ◌⊎◌, inl, inr, Option, Some, None, IfSome, length-drop, length-take-le}
+use Rattle.std.proofs.Common.{◌≡◌, ℕ, zero, suc, ◌+◌, ◌-◌, ◌^◌, ◌≤◌, ◌<◌, Bool, true, false, not, List, [], ◌∷◌, ◌++◌, length, take, drop, refl, sym, ap, ◌∙◌, subst, arith, append-nil, encode_utf8_all, chars, IsUtf8, ⊎_elim, ◌⊎◌, inl, inr, Option, Some, None, IfSome, length-drop, length-take-le}
 use Rattle.std.specs.Str.{IsCharBoundary}
 use Rattle.std.specs.List.{list_all, prefix_len}
 use Rattle.std.proofs.Math.Utf8.{scalars}
@@ -7,6 +7,7 @@ use Rattle.std.proofs.lemmas.List.{length-append, nil_from_length, take-append-d
 use Rattle.std.proofs.lemmas.Str.{encodes-append, encodes-chars, scalars-chars, length-le-encodes, IsCharBoundary-at_seam}
 use Rattle.std.proofs.lemmas.Bool.{and_parts, cases_Bool}
 use Rattle.lint_values.specs.declared.place.Pos.{Pos}
+use Rattle.py_source.specs.Places.{pos_from}
 use Rattle.py_source.specs.Spans.{IsPart}
 use Rattle.py_lexeme.specs.declared.piece.Kind.{Kind}
 use Rattle.py_lexeme.specs.declared.piece.Kind.TheVariants.{Blank, LineEnd, Comment, Join, Name, Keyword, Number, Str, FStr, Op}
@@ -17,6 +18,7 @@ use Rattle.py_lexeme.specs.Strings.{has_wide_byte, has_in_prefix}
 use Rattle.py_lexeme.specs.Pieces.{Cuts, is_legal}
 use Rattle.py_lexeme.specs.Faults.{IsCut, StopsAt, IsFaulty, IsIllegal, flaw_of}
 use Rattle.py_lexeme.proofs.Matches.{match_some}
+use Rattle.py_layout.specs.declared.item.Item.{Item}
 use Rattle.py_layout.specs.declared.fault.LayoutCause.{LayoutCause}
 use Rattle.py_layout.specs.declared.fault.LayoutCause.TheVariants.{AtLine, AtItem, OpenBracket}
 use Rattle.py_layout.specs.declared.fault.ItemCause.TheVariants.{CloseBracket, TooDeep, Stopped}
@@ -25,9 +27,10 @@ use Rattle.py_token.specs.declared.token.TokenKind.{TokenKind}
 use Rattle.py_token.specs.FirstFault.{rest_at, fault_rest}
 use Rattle.py_token.specs.Items.{items_of, all_items}
 use Rattle.py_token.specs.Scanned.{kind_of, start_of, token_at, tokens_from}
-use Rattle.py_token.specs.Spans.{AreParts}
+use Rattle.py_token.specs.Settings.{seen}
+use Rattle.py_token.specs.Spans.{AreParts, AreRoomy}
 use Rattle.py_token.specs.Steps.{AreCut}
-use Rattle.py_token.proofs.ScanLaws.{drop_twice, front_some}
+use Rattle.py_token.proofs.ScanLaws.{col_bound, drop_twice, front_some, line_bound}
 
 are_cut_to : (cs : List ℕ) (pieces : List Piece) (rest : List ℕ) → Cuts cs pieces rest → AreCut cs pieces
 are_cut_to cs [] rest cut = tt
@@ -69,9 +72,9 @@ parts_more text (Some kind) start end pos more part parts zero d within = part
 parts_more text (Some kind) start end pos more part parts (suc i) d within = parts i d (omega arith)
 
 -- each token is a part of the text
-pub tokens_are_parts : (text : List ℕ) (k : ℕ) (rest : List ℕ) (pieces : List Piece) → IsUtf8 text → rest ≡ drop k (chars text) → AreParts text (tokens_from text rest pieces)
-tokens_are_parts text k rest [] utf8 same = λ i d within. absurd (omega arith)
-tokens_are_parts text k rest (piece ∷ pieces) utf8 same =
+pub tokens_are_parts : (from : Pos) (text : List ℕ) (k : ℕ) (rest : List ℕ) (pieces : List Piece) → IsUtf8 text → rest ≡ drop k (chars text) → AreParts text (tokens_from from text rest pieces)
+tokens_are_parts from text k rest [] utf8 same = λ i d within. absurd (omega arith)
+tokens_are_parts from text k rest (piece ∷ pieces) utf8 same =
     let later : drop piece.len rest ≡ drop (k + piece.len) (chars text) = ap (drop piece.len) same ∙ sym (drop_twice (chars text) k piece.len) in
     let part : IsPart text (record { start = start_of text rest; end = start_of text (drop piece.len rest) }) =
     record {
@@ -79,7 +82,21 @@ tokens_are_parts text k rest (piece ∷ pieces) utf8 same =
       from_boundary = subst (λ r. IsCharBoundary text (start_of text r)) (sym same) (boundary text k utf8);
       to_boundary = subst (λ r. IsCharBoundary text (start_of text r)) (sym later) (boundary text (k + piece.len) utf8);
     } in
-    parts_more text (kind_of piece.kind) (start_of text rest) (start_of text (drop piece.len rest)) _ (tokens_from text (drop piece.len rest) pieces) part (tokens_are_parts text (k + piece.len) (drop piece.len rest) pieces utf8 later)
+    parts_more text (kind_of piece.kind) (start_of text rest) (start_of text (drop piece.len rest)) _ (tokens_from from text (drop piece.len rest) pieces) part (tokens_are_parts from text (k + piece.len) (drop piece.len rest) pieces utf8 later)
+
+roomy_more : (kind : Option TokenKind) (start end : ℕ) (pos : Pos) (more : List Token) → pos.line + (end - start) ≤ 2 ^ 32 → pos.col + (end - start) ≤ 2 ^ 32 → AreRoomy more → AreRoomy (token_at kind start end pos ++ more)
+roomy_more None start end pos more lines columns room k d within = room k d within
+roomy_more (Some kind) start end pos more lines columns room zero d within = record { lines = lines; columns = columns }
+roomy_more (Some kind) start end pos more lines columns room (suc k) d within = room k d (omega arith)
+
+-- each byte of a token has a line and a column below 2^32
+pub tokens_are_roomy : (from : Pos) (text rest : List ℕ) (pieces : List Piece) → from.line + length text ≤ 2 ^ 32 → from.col + length text ≤ 2 ^ 32 → AreRoomy (tokens_from from text rest pieces)
+tokens_are_roomy from text rest [] lines columns = λ k d within. absurd (omega arith)
+tokens_are_roomy from text rest (piece ∷ pieces) lines columns =
+    roomy_more (kind_of piece.kind) (start_of text rest) (start_of text (drop piece.len rest)) (pos_from from (start_of text rest) text) (tokens_from from text (drop piece.len rest) pieces)
+    (omega (arith, line_bound from (start_of text rest) text, lines))
+    (omega (arith, col_bound from (start_of text rest) text, columns))
+    (tokens_are_roomy from text (drop piece.len rest) pieces lines columns)
 
 -- ---- where a fault stands
 
@@ -168,27 +185,45 @@ fault_rest_some cs pieces stop n (AtItem TooDeep) cut within = rest_at_any cs pi
 fault_rest_some cs pieces None n (AtItem Stopped) cut within = rest_at_any cs pieces None n cut within
 fault_rest_some cs pieces (Some stop) n (AtItem Stopped) cut within = omega (arith, length-drop stop.place cs, stop_within cs pieces stop cut)
 
--- so its place is one before the end of the text
-pub record IsInText (text rest : List ℕ) : Type 0 where
-  pub size : length (encode_utf8_all rest) ≤ length text
-  pub some : 0 < length (encode_utf8_all rest)
+-- so its place is one before the end of the text, behind the characters that stand before the rest
+pub record IsInText (text cs rest : List ℕ) : Type 0 where
+  pub shorter : length rest ≤ length cs
+  pub place : length (encode_utf8_all (take (length cs - length rest) cs)) ≡ start_of text rest
+  pub before : start_of text rest < length text
+  pub bytes : encode_utf8_all cs ≡ text
 
-pub fault_in_text : (text : List ℕ) (pieces : List Piece) (stop : Option Stop) (n : ℕ) (cause : LayoutCause) → IsUtf8 text → IsCut (chars text) pieces stop → n < length (all_items (chars text) pieces stop) → IsInText text (fault_rest (chars text) pieces stop n cause)
+-- a rest that is not empty stands behind as many characters as the text has more
+rest_in_text : (text : List ℕ) (k : ℕ) → IsUtf8 text → 0 < length (drop k (chars text)) → IsInText text (chars text) (drop k (chars text))
+rest_in_text text k utf8 some =
+    let size : length (drop k (chars text)) ≡ length (chars text) - k = length-drop k (chars text) in
+    let count : length (chars text) - length (drop k (chars text)) ≡ k = omega (arith, size, some) in
+    record {
+      shorter = omega (arith, size);
+      place = ap (λ n. length (encode_utf8_all (take n (chars text)))) count ∙ start_place text k utf8;
+      before = omega (arith, length-le-encodes (drop k (chars text)), some, behind_le (chars text) k, ap length (encodes-chars text utf8));
+      bytes = encodes-chars text utf8;
+    }
+
+pub fault_in_text : (text : List ℕ) (pieces : List Piece) (stop : Option Stop) (n : ℕ) (cause : LayoutCause) → IsUtf8 text → IsCut (chars text) pieces stop → n < length (all_items (chars text) pieces stop) → IsInText text (chars text) (fault_rest (chars text) pieces stop n cause)
 fault_in_text text pieces stop n cause utf8 cut within =
     let there = fault_rest_drop (chars text) pieces stop n cause in
-    record {
-      size = omega (arith, behind_le (chars text) there.0, ap length (encodes-chars text utf8), ap (λ r. length (encode_utf8_all r)) there.1);
-      some = omega (arith, length-le-encodes (fault_rest (chars text) pieces stop n cause), fault_rest_some (chars text) pieces stop n cause cut within);
-    }
+    let some = fault_rest_some (chars text) pieces stop n cause cut within in
+    subst (IsInText text (chars text)) (sym there.1) (rest_in_text text there.0 utf8 (subst (λ r. 0 < length r) there.1 some))
+
+seen_count : (inside : Bool) (items : List Item) → length (seen inside items) ≡ length items
+seen_count false items = refl
+seen_count true [] = refl
+seen_count true (item ∷ items) = ap suc (seen_count true items)
 
 -- ---- the same, where the parts have names
 
-pub fault_in_text_at : (text cs rest : List ℕ) (pieces named : List Piece) (stop : Option Stop) (n : ℕ) (cause : LayoutCause) → IsUtf8 text → cs ≡ chars text → named ≡ pieces → rest ≡ fault_rest cs named stop n cause → IsCut cs pieces stop → n < length (all_items cs pieces stop) → IsInText text rest
-fault_in_text_at text cs rest pieces named stop n cause utf8 same is_named is_rest cut within =
+pub fault_in_text_at : (inside : Bool) (text cs rest : List ℕ) (pieces named : List Piece) (stop : Option Stop) (n : ℕ) (cause : LayoutCause) → IsUtf8 text → cs ≡ chars text → named ≡ pieces → rest ≡ fault_rest cs named stop n cause → IsCut cs pieces stop → n < length (seen inside (all_items cs pieces stop)) → IsInText text cs rest
+fault_in_text_at inside text cs rest pieces named stop n cause utf8 same is_named is_rest cut within =
     let cut_there : IsCut (chars text) pieces stop = subst (λ x. IsCut x pieces stop) same cut in
-    let within_there : n < length (all_items (chars text) pieces stop) = subst (λ x. n < length (all_items x pieces stop)) same within in
+    let within_here : n < length (all_items cs pieces stop) = omega (arith, seen_count inside (all_items cs pieces stop), within) in
+    let within_there : n < length (all_items (chars text) pieces stop) = subst (λ x. n < length (all_items x pieces stop)) same within_here in
     let rest_there : rest ≡ fault_rest (chars text) pieces stop n cause = is_rest ∙ ap (λ ps. fault_rest cs ps stop n cause) is_named ∙ ap (λ x. fault_rest x pieces stop n cause) same in
-    subst (IsInText text) (sym rest_there) (fault_in_text text pieces stop n cause utf8 cut_there within_there)
+    subst (IsInText text cs) (sym rest_there) (subst (λ x. IsInText text x (fault_rest (chars text) pieces stop n cause)) (sym same) (fault_in_text text pieces stop n cause utf8 cut_there within_there))
 
 pub are_cut_at : (cs : List ℕ) (pieces named : List Piece) (stop : Option Stop) → named ≡ pieces → IsCut cs pieces stop → AreCut cs named
 are_cut_at cs pieces named stop is_named cut = subst (AreCut cs) (sym is_named) (are_cut cs pieces stop cut)
@@ -197,8 +232,11 @@ pub stop_bound : (cs : List ℕ) (pieces : List Piece) (stop : Option Stop) → 
 stop_bound cs pieces None cut = tt
 stop_bound cs pieces (Some stop) cut = omega (arith, stop_within cs pieces stop cut)
 
-pub parts_at : (text cs : List ℕ) (named : List Piece) (tokens : List Token) → IsUtf8 text → cs ≡ chars text → tokens ≡ tokens_from text cs named → AreParts text tokens
-parts_at text cs named tokens utf8 same is_tokens = subst (AreParts text) (sym is_tokens) (tokens_are_parts text 0 cs named utf8 same)
+pub parts_at : (from : Pos) (text cs : List ℕ) (named : List Piece) (tokens : List Token) → IsUtf8 text → cs ≡ chars text → tokens ≡ tokens_from from text cs named → AreParts text tokens
+parts_at from text cs named tokens utf8 same is_tokens = subst (AreParts text) (sym is_tokens) (tokens_are_parts from text 0 cs named utf8 same)
+
+pub roomy_at : (from : Pos) (text cs : List ℕ) (named : List Piece) (tokens : List Token) → tokens ≡ tokens_from from text cs named → from.line + length text ≤ 2 ^ 32 → from.col + length text ≤ 2 ^ 32 → AreRoomy tokens
+roomy_at from text cs named tokens is_tokens lines columns = subst AreRoomy (sym is_tokens) (tokens_are_roomy from text cs named lines columns)
 
 pub characters_short : (text cs : List ℕ) → IsUtf8 text → cs ≡ chars text → length cs ≤ length text
 characters_short text cs utf8 same = omega (arith, ap length same, length-le-encodes (chars text), ap length (encodes-chars text utf8))

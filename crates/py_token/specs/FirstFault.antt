@@ -4,7 +4,7 @@ use Rattle.lint_values.specs.declared.place.Pos.{Pos}
 use Rattle.py_source.specs.declared.decoding.SourceCause.{SourceCause}
 use Rattle.py_source.specs.declared.decoding.SourceCause.TheVariants as source
 use Rattle.py_source.specs.Decoding.{IsSourceFault, IsFaultless, without_mark}
-use Rattle.py_source.specs.Places.{pos_of}
+use Rattle.py_source.specs.Places.{pos_from, pos_of}
 use Rattle.py_lexeme.specs.declared.piece.Cause.{Cause}
 use Rattle.py_lexeme.specs.declared.piece.Cause.TheVariants as lexical
 use Rattle.py_lexeme.specs.declared.piece.Piece.{Piece}
@@ -20,6 +20,8 @@ use Rattle.py_token.specs.declared.fault.TokenCause.{TokenCause}
 use Rattle.py_token.specs.declared.fault.TokenCause.TheVariants as cause
 use Rattle.py_token.specs.Items.{all_items}
 use Rattle.py_token.specs.Scanned.{start_of}
+use Rattle.py_token.specs.Settings.{seen, whole}
+use Rattle.py_token.specs.declared.setting.Setting.{Setting}
 
 abbrev pub source_cause : SourceCause → TokenCause
 source_cause source.NotUtf8 = cause.NotUtf8
@@ -65,15 +67,15 @@ fault_rest cs pieces stop n (AtItem item.TooDeep) = rest_at cs pieces n
 fault_rest cs pieces stop n (AtLine found) = rest_at cs pieces n
 fault_rest cs pieces stop n open_bracket = rest_at cs pieces n
 
--- the first fault of a text: that of the items of its pieces, with a stop behind them where no piece could be read
-pub record IsTextFault (text : List ℕ) (pos : Pos) (cause : TokenCause) : Type 0 where
+-- the first fault of a text that stands so: that of the items of its pieces, with a stop behind them where no piece could be read
+pub record IsTextFault (setting : Setting) (text : List ℕ) (pos : Pos) (cause : TokenCause) : Type 0 where
   pub pieces : List Piece
   pub stop : Option Stop
   pub place : ℕ
   pub found : LayoutCause
   pub cut : IsCut (chars text) pieces stop
-  pub first : layout.IsFirstFault (all_items (chars text) pieces stop) place found
-  pub here : pos ≡ pos_of text (start_of text (fault_rest (chars text) pieces stop place found))
+  pub first : layout.IsFirstFault (seen setting.inside (all_items (chars text) pieces stop)) place found
+  pub here : pos ≡ pos_from setting.from (start_of text (fault_rest (chars text) pieces stop place found)) text
   pub told : cause ≡ text_cause stop found
 
 -- the fault of the file as a whole
@@ -86,4 +88,4 @@ pub record IsFileFault (bytes : List ℕ) (pos : Pos) (cause : TokenCause) : Typ
 
 -- the first fault of a source, where it stands and why
 abbrev pub IsFirstFault : List ℕ → Pos → TokenCause → Type 0
-IsFirstFault bytes pos cause = IsFileFault bytes pos cause ⊎ (IsFaultless bytes × IsTextFault (without_mark bytes) pos cause)
+IsFirstFault bytes pos cause = IsFileFault bytes pos cause ⊎ (IsFaultless bytes × IsTextFault whole (without_mark bytes) pos cause)

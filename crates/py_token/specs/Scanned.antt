@@ -1,11 +1,12 @@
--- The tokens and comments of a text, from its pieces: each by its byte places, its line and its column.
+-- The tokens and comments of a text, from its pieces: each by its byte places, its line and its column. The text begins at
+-- some place of a source.
 use Rattle.std.specs.Prelude.{ℕ, ◌-◌, Bool, List, [], ◌∷◌, ◌++◌, length, take, drop, encode_utf8_all, Option, Some, None}
 use Rattle.py_lexeme.specs.declared.piece.Kind.{Kind}
 use Rattle.py_lexeme.specs.declared.piece.Kind.TheVariants as kind
 use Rattle.py_lexeme.specs.declared.piece.Piece.{Piece}
 use Rattle.py_layout.specs.Comments.{is_head_behind}
 use Rattle.lint_values.specs.declared.place.Pos.{Pos}
-use Rattle.py_source.specs.Places.{pos_of}
+use Rattle.py_source.specs.Places.{pos_from}
 use Rattle.py_token.specs.declared.token.Comment.{Comment}
 use Rattle.py_token.specs.declared.token.Token.{Token}
 use Rattle.py_token.specs.declared.token.TokenKind.{TokenKind}
@@ -32,14 +33,14 @@ token_at None start end pos = []
 token_at (Some of_kind) start end pos = record { kind = of_kind; start = start; end = end; pos = pos } ∷ []
 
 -- the token of the piece at the front of the rest, if it is one
-abbrev pub token_of : List ℕ → List ℕ → Piece → List Token
-token_of text rest piece = token_at (kind_of piece.kind) (start_of text rest) (start_of text (drop piece.len rest)) (pos_of text (start_of text rest))
+abbrev pub token_of : Pos → List ℕ → List ℕ → Piece → List Token
+token_of from text rest piece = token_at (kind_of piece.kind) (start_of text rest) (start_of text (drop piece.len rest)) (pos_from from (start_of text rest) text)
 
 -- the tokens of the pieces at the front of the rest
-abbrev pub tokens_from : List ℕ → List ℕ → List Piece → List Token
-tokens_from text rest [] = []
-tokens_from text rest (piece ∷ pieces) =
-    token_of text rest piece ++ tokens_from text (drop piece.len rest) pieces
+abbrev pub tokens_from : Pos → List ℕ → List ℕ → List Piece → List Token
+tokens_from from text rest [] = []
+tokens_from from text rest (piece ∷ pieces) =
+    token_of from text rest piece ++ tokens_from from text (drop piece.len rest) pieces
 
 -- the comment with these places, if the piece is one
 abbrev pub comment_at : Kind → Bool → ℕ → ℕ → Pos → List Comment
@@ -47,12 +48,13 @@ comment_at kind.Comment head start end pos = record { pos = pos; start = start; 
 comment_at _ head start end pos = []
 
 -- the comment of the piece at the front of the rest, if it is one; it is alone where only blanks stand before it on its line
-abbrev pub comment_of : List ℕ → Bool → List ℕ → Piece → List Comment
-comment_of text head rest piece = comment_at piece.kind head (start_of text rest) (start_of text (drop piece.len rest)) (pos_of text (start_of text rest))
+abbrev pub comment_of : Pos → List ℕ → Bool → List ℕ → Piece → List Comment
+comment_of from text head rest piece =
+    comment_at piece.kind head (start_of text rest) (start_of text (drop piece.len rest)) (pos_from from (start_of text rest) text)
 
 -- the comments of the pieces at the front of the rest, where only blanks stand before it on its line, or more
-abbrev pub comments_from : List ℕ → Bool → List ℕ → List Piece → List Comment
-comments_from text head rest [] = []
-comments_from text head rest (piece ∷ pieces) =
-    comment_of text head rest piece
-    ++ comments_from text (is_head_behind head (item_of piece.kind (take piece.len rest))) (drop piece.len rest) pieces
+abbrev pub comments_from : Pos → List ℕ → Bool → List ℕ → List Piece → List Comment
+comments_from from text head rest [] = []
+comments_from from text head rest (piece ∷ pieces) =
+    comment_of from text head rest piece
+    ++ comments_from from text (is_head_behind head (item_of piece.kind (take piece.len rest))) (drop piece.len rest) pieces

@@ -1,5 +1,5 @@
 -- The tokens of a source: its pieces cover the text, each bracket is closed, and each logical line has a level.
-use Rattle.std.specs.Prelude.{◌≡◌, ℕ, true, List, chars, None, Result, Ok, Err}
+use Rattle.std.specs.Prelude.{◌≡◌, ℕ, not, List, chars, None, Result, Ok, Err}
 use Rattle.lint_values.specs.declared.place.Pos.{Pos}
 use Rattle.py_source.specs.declared.span.Span.{Span}
 use Rattle.py_source.specs.Decoding.{IsFaultless, without_mark}
@@ -15,6 +15,8 @@ use Rattle.py_token.specs.declared.token.Comment.{Comment}
 use Rattle.py_token.specs.declared.token.Token.{Token}
 use Rattle.py_token.specs.Items.{items_of}
 use Rattle.py_token.specs.Scanned.{comments_from, tokens_from}
+use Rattle.py_token.specs.Settings.{seen, whole}
+use Rattle.py_token.specs.declared.setting.Setting.{Setting}
 
 -- what a source is read as
 pub record Tokenized : Type 0 where
@@ -24,20 +26,21 @@ pub record Tokenized : Type 0 where
   pub comments : List Comment
   pub physical : List Span
 
--- the text is read as this: its pieces cover it, and their items have a layout
-pub record IsRead (text : List ℕ) (read : Tokenized) : Type 0 where
+-- a text that stands so is read as this: its pieces cover it, and their items have a layout; behind what stands before
+-- brackets no comment of the first line is alone
+pub record IsRead (setting : Setting) (text : List ℕ) (read : Tokenized) : Type 0 where
   pub pieces : List Piece
   pub cut : IsCut (chars text) pieces None
   pub same : read.text ≡ text
-  pub tokens : read.tokens ≡ tokens_from text (chars text) pieces
-  pub lines : IsLaidOut (items_of (chars text) pieces) read.lines
-  pub comments : read.comments ≡ comments_from text true (chars text) pieces
+  pub tokens : read.tokens ≡ tokens_from setting.from text (chars text) pieces
+  pub lines : IsLaidOut (seen setting.inside (items_of (chars text) pieces)) read.lines
+  pub comments : read.comments ≡ comments_from setting.from text (not setting.inside) (chars text) pieces
   pub physical : ArePhysical text read.physical
 
 -- the source is read as this
 pub record IsTokenized (bytes : List ℕ) (read : Tokenized) : Type 0 where
   pub faultless : IsFaultless bytes
-  pub text : IsRead (without_mark bytes) read
+  pub text : IsRead whole (without_mark bytes) read
 
 -- what holds of a fault; want of memory is free
 abbrev pub OnFault : (Pos → TokenCause → Type 0) → TokenFault → Type 0

@@ -5,6 +5,7 @@ mod fault;
 mod forms;
 mod item;
 mod scan;
+mod setting;
 mod token;
 mod tokens;
 mod whole;
@@ -14,7 +15,7 @@ pub use py_layout::Logical;
 pub use py_source::Span;
 pub use token::{Comment, Token, TokenKind};
 pub use tokens::Tokens;
-pub use whole::tokenize;
+pub use whole::{tokenize, tokenize_field};
 
 #[cfg(test)]
 mod tests;

@@ -1,11 +1,13 @@
 // The items, tokens and comments of a text's pieces.
-ghost use Rattle.std.specs.Prelude.{◌≡◌, ◌++◌, ◌+◌, ◌<◌, ◌≤◌, ◌^◌, length, take, true, IfOk, OnOk, chars, encode_utf8_all};
+ghost use Rattle.std.specs.Prelude.{◌≡◌, ◌++◌, ◌+◌, ◌<◌, ◌≤◌, ◌^◌, length, take, not, IfOk, OnOk, chars, encode_utf8_all};
 ghost use Rattle.py_token.specs.Items.{items_of};
 ghost use Rattle.py_token.specs.Scanned.{comment_at, comments_from, kind_of, token_at, tokens_from};
+ghost use Rattle.py_token.specs.Settings.{seen};
 ghost use Rattle.py_token.specs.Steps.{AreCut, StandsAt};
 ghost use Rattle.py_source.specs.Places.{pos_from};
 
 use crate::item::item_of;
+use crate::setting::{Setting, seen_as};
 use crate::token::{Comment, Token, TokenKind};
 use lint_values::{Memory, Pos};
 use py_layout::{Item, is_head_behind};
@@ -106,27 +108,30 @@ pub(crate) fn scan(
     text: &str,
     characters: &[char],
     pieces: &[Piece],
+    setting: Setting,
 ) -> Result<Scanned, Memory>
     requires same { characters.now ≡ chars text.now }
     requires short { length text.now < 2 ^ 32 }
+    requires lines { setting.from.line + length text.now ≤ 2 ^ 32 }
+    requires columns { setting.from.col + length text.now ≤ 2 ^ 32 }
     requires cut { AreCut characters.now pieces.now }
-    ensures items { IfOk result (λ scanned. scanned.items.items ≡ items_of characters.now pieces.now) }
-    ensures tokens { IfOk result (λ scanned. scanned.tokens.items ≡ tokens_from text.now characters.now pieces.now) }
-    ensures comments { IfOk result (λ scanned. scanned.comments.items ≡ comments_from text.now true characters.now pieces.now) }
+    ensures items { IfOk result (λ scanned. scanned.items.items ≡ seen setting.inside (items_of characters.now pieces.now)) }
+    ensures tokens { IfOk result (λ scanned. scanned.tokens.items ≡ tokens_from setting.from text.now characters.now pieces.now) }
+    ensures comments { IfOk result (λ scanned. scanned.comments.items ≡ comments_from setting.from text.now (not setting.inside) characters.now pieces.now) }
 {
     let mut items = Vec::new(alloc);
     let mut tokens = Vec::new(alloc);
     let mut comments = Vec::new(alloc);
     let mut rest = characters;
-    let mut at = Pos { line: 1, col: 0 };
+    let mut at = setting.from;
     let mut start: u32 = 0;
-    let mut is_head = true;
+    let mut is_head = !setting.inside;
     for piece in pieces {
         let len = piece.len as usize;
         let (front, behind) = rest.split_at(len);
         let end = start + byte_len(front) as u32;
         let item = item_of(piece.kind, front);
-        items.push(item)?;
+        items.push(seen_as(setting.inside, item))?;
         add_token(&mut tokens, piece.kind, start, end, at)?;
         add_comment(&mut comments, piece.kind, is_head, start, end, at)?;
         is_head = is_head_behind(is_head, item);

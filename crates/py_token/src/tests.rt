@@ -1,4 +1,4 @@
-use crate::{TokenCause, TokenFault, TokenKind, tokenize};
+use crate::{TokenCause, TokenFault, TokenKind, tokenize, tokenize_field};
 use lint_values::Pos;
 use std::alloc::Global;
 use std::process::Abort;
@@ -123,6 +123,67 @@ fn names_have_their_normal_forms(rt: HostRuntime) -> Result<(), Fail> {
     ];
     for (source, form) in rows {
         begins_with_name(&rt, rt.alloc(), source, form);
+    }
+    Ok(())
+}
+
+/// The text of a field that begins at 3:7 has so many tokens, of which the last one stands here.
+fn is_field(rt: &impl Abort, alloc: Global, text: &str, tokens: usize, line: u32, col: u32) {
+    assert!(rt; text.len() < 1000);
+    match tokenize_field(alloc, text, Pos { line: 3, col: 7 }) {
+        Ok(read) => {
+            assert_eq!(rt; read.count(), tokens, "{text}");
+            assert!(rt; read.count() > 0);
+            assert_eq!(rt;
+                read.token(read.count() - 1).pos,
+                Pos { line, col },
+                "{text}"
+            );
+            assert_eq!(rt; read.lines().len(), 1, "{text}");
+        }
+        Err(_) => assert!(rt; false, "{text}"),
+    }
+}
+
+/// The text of a field that begins at 3:7 is refused for this cause at this place.
+fn is_refused_field(
+    rt: &impl Abort,
+    alloc: Global,
+    text: &str,
+    line: u32,
+    col: u32,
+    cause: TokenCause,
+) {
+    assert!(rt; text.len() < 1000);
+    match tokenize_field(alloc, text, Pos { line: 3, col: 7 }) {
+        Err(TokenFault::At(pos, found)) => {
+            assert_eq!(rt; found, cause, "{text}");
+            assert_eq!(rt; pos, Pos { line, col }, "{text}");
+        }
+        _ => assert!(rt; false, "{text}"),
+    }
+}
+
+#[test]
+fn a_field_is_read_as_inside_brackets(rt: HostRuntime) -> Result<(), Fail> {
+    let rows = [
+        ("a", 1, 3, 7),
+        ("  a + b", 3, 3, 13),
+        ("a\n  +\n\tb", 3, 5, 1),
+        ("\n a[1:2]\n", 6, 4, 6),
+        ("'\u{e9}' * w", 3, 3, 14),
+    ];
+    for (text, tokens, line, col) in rows {
+        is_field(&rt, rt.alloc(), text, tokens, line, col);
+    }
+    let refused = [
+        ("a ? b", 3, 9, TokenCause::BadChar),
+        ("(a]", 3, 9, TokenCause::CloseBracket),
+        ("a\n  (b", 4, 2, TokenCause::OpenBracket),
+        ("1_x", 3, 7, TokenCause::BadNumber),
+    ];
+    for (text, line, col, cause) in refused {
+        is_refused_field(&rt, rt.alloc(), text, line, col, cause);
     }
     Ok(())
 }

@@ -1,5 +1,5 @@
 // The tokens of a source.
-ghost use Rattle.std.specs.Prelude.{◌≡◌, ◌<◌, length, slice_get, Some, IfSome};
+ghost use Rattle.std.specs.Prelude.{◌≡◌, ◌<◌, ◌≤◌, ◌+◌, ◌-◌, ◌^◌, length, slice_get, Some, IfSome};
 ghost use Rattle.py_source.specs.Spans.{bytes_of};
 ghost use Rattle.py_token.specs.declared.token.TokenKind.TheVariants.{Name};
 
@@ -23,19 +23,19 @@ pub struct Tokens<'a> {
 impl<'a> Model for Tokens<'a> {
     ghost use Rattle.py_token.specs.Tokenized.{Tokenized};
     ghost use Rattle.py_token.specs.Forms.{HasForms};
-    ghost use Rattle.py_token.specs.Spans.{AreParts};
+    ghost use Rattle.py_token.specs.Spans.{AreParts, AreRoomy};
 
     ghost Value = { Tokenized };
 
     ghost view = { λ t. record { text = t.text.now; tokens = t.tokens.items; lines = t.lines.items; comments = t.comments.items; physical = t.physical.items } };
 
-    ghost invariant = { λ t. AreParts t.text.now t.tokens.items × HasForms t.text.now t.tokens.items t.forms };
+    ghost invariant = { λ t. AreParts t.text.now t.tokens.items × AreRoomy t.tokens.items × HasForms t.text.now t.tokens.items t.forms };
 }
 
 impl<'a> Tokens<'a> {
     ghost use Rattle.py_normal_form.specs.NormalForm.{normal_form_of};
     ghost use Rattle.py_token.specs.Forms.{HasForms};
-    ghost use Rattle.py_token.specs.Spans.{AreParts, span_of};
+    ghost use Rattle.py_token.specs.Spans.{AreParts, AreRoomy, span_of};
 
     pub(crate) fn new(
         text: &'a str,
@@ -46,6 +46,7 @@ impl<'a> Tokens<'a> {
         forms: Forms,
     ) -> Tokens<'a>
         requires parts { AreParts text.now tokens.items }
+        requires room { AreRoomy tokens.items }
         requires forms { HasForms text.now tokens.items forms }
         ensures { result ≡ record { text = text.now; tokens = tokens.items; lines = lines.items; comments = comments.items; physical = physical.items } }
     {
@@ -59,6 +60,13 @@ impl<'a> Tokens<'a> {
         }
     }
 
+    /// The text of the source, without a byte order mark.
+    pub fn source(&self) -> &'a str
+        ensures { result.now ≡ self.now.text }
+    {
+        self.text
+    }
+
     /// How many tokens there are.
     pub fn count(&self) -> usize
         ensures { result ≡ length self.now.tokens }
@@ -66,10 +74,12 @@ impl<'a> Tokens<'a> {
         self.tokens.len()
     }
 
-    /// The token with this number, from 0.
+    /// The token with this number, from 0. Each of its bytes has a line and a column below 2^32.
     pub fn token(&self, i: usize) -> Token
         requires { i < length self.now.tokens }
-        ensures { slice_get self.now.tokens i ≡ Some result }
+        ensures value { slice_get self.now.tokens i ≡ Some result }
+        ensures lines { result.pos.line + (result.end - result.start) ≤ 2 ^ 32 }
+        ensures columns { result.pos.col + (result.end - result.start) ≤ 2 ^ 32 }
     {
         self.tokens[i]
     }
@@ -77,7 +87,8 @@ impl<'a> Tokens<'a> {
     /// The slice of the source that the token is.
     pub fn text(&self, i: usize) -> &'a str
         requires { i < length self.now.tokens }
-        ensures { IfSome (slice_get self.now.tokens i) (λ token. result.now ≡ bytes_of self.now.text (span_of token)) }
+        ensures value { IfSome (slice_get self.now.tokens i) (λ token. result.now ≡ bytes_of self.now.text (span_of token)) }
+        ensures size { IfSome (slice_get self.now.tokens i) (λ token. length result.now ≡ token.end - token.start) }
     {
         let token = self.tokens[i];
         slice(

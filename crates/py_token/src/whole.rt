@@ -1,5 +1,5 @@
 // A whole source, read.
-ghost use Rattle.std.specs.Prelude.{◌≡◌, ◌<◌, ◌≤◌, ◌^◌, ◌++◌, length, None, IfOk, IfErr, IfSome, OnOk, chars};
+ghost use Rattle.std.specs.Prelude.{◌≡◌, ◌<◌, ◌≤◌, ◌^◌, ◌++◌, ◌+◌, length, not, None, IfOk, IfErr, IfSome, OnOk, chars};
 ghost use Rattle.lint_values.specs.declared.place.Pos.{Pos};
 ghost use Rattle.py_source.specs.Decoding.{IsSourceFault, without_mark};
 ghost use Rattle.py_lexeme.specs.Faults.{IsCut};
@@ -8,7 +8,8 @@ ghost use Rattle.py_token.specs.FirstFault.{IsFirstFault, IsTextFault, fault_res
 ghost use Rattle.py_token.specs.Items.{all_items, items_of, stop_item};
 ghost use Rattle.py_token.specs.Scanned.{comments_from, tokens_from};
 ghost use Rattle.py_source.specs.Physical.{ArePhysical};
-ghost use Rattle.py_token.specs.Spans.{AreParts};
+ghost use Rattle.py_token.specs.Settings.{inside_at, seen, whole};
+ghost use Rattle.py_token.specs.Spans.{AreParts, AreRoomy};
 ghost use Rattle.py_token.specs.Steps.{AreCut};
 ghost use Rattle.py_token.specs.Tokenized.{FaultsOnly, GivesOnly, IsRead, IsTokenized, OnFault, Tokenized};
 ghost use Rattle.py_token.specs.declared.fault.TokenCause.{TokenCause};
@@ -16,12 +17,13 @@ ghost use Rattle.py_token.specs.declared.fault.TokenCause.{TokenCause};
 use crate::fault::{TokenCause, TokenFault, source_cause, text_cause};
 use crate::forms::forms_of;
 use crate::scan::{Scanned, scan};
+use crate::setting::{Setting, inside_at, whole};
 use crate::token::{Comment, Token};
 use crate::tokens::Tokens;
 use lint_values::{Memory, Pos};
 use py_layout::{Item, ItemCause, LayoutCause, LayoutFault, Logical, layout};
 use py_lexeme::{Cut, Piece, Stop, cut};
-use py_source::{SourceFault, byte_len, characters, decode, physical, pos_at, without_mark};
+use py_source::{SourceFault, advance, characters, decode, physical, pos_at, without_mark};
 use std::alloc::Global;
 
 /// A fault of the file as a whole.
@@ -78,19 +80,20 @@ fn text_fault(
     text: &str,
     characters: &[char],
     cut: &Cut,
+    setting: Setting,
     n: usize,
     cause: LayoutCause,
 ) -> TokenFault
     requires same { characters.now ≡ chars text.now }
-    requires short { length text.now < 2 ^ 32 }
+    requires lines { setting.from.line + length text.now ≤ 2 ^ 32 }
+    requires columns { setting.from.col + length text.now ≤ 2 ^ 32 }
     requires cut { IsCut characters.now cut.now.pieces.items cut.now.stop }
-    requires first { layout_fault.IsFirstFault (all_items characters.now cut.now.pieces.items cut.now.stop) n cause }
-    requires within { n < length (all_items characters.now cut.now.pieces.items cut.now.stop) }
-    ensures { OnFault (IsTextFault text.now) result }
+    requires first { layout_fault.IsFirstFault (seen setting.inside (all_items characters.now cut.now.pieces.items cut.now.stop)) n cause }
+    requires within { n < length (seen setting.inside (all_items characters.now cut.now.pieces.items cut.now.stop)) }
+    ensures { OnFault (IsTextFault setting text.now) result }
 {
     let rest = fault_rest(characters, cut.pieces.as_slice(), cut.stop, n, cause);
-    let start = text.len() - byte_len(rest);
-    let pos = pos_at(text.as_bytes(), start);
+    let pos = advance(setting.from, characters, characters.len() - rest.len());
     TokenFault::At(pos, text_cause(cut.stop, cause))
 }
 
@@ -117,6 +120,7 @@ fn finish<'a>(
 ) -> Result<Tokens<'a>, Memory>
     requires short { length text.now < 2 ^ 32 }
     requires parts { AreParts text.now tokens.items }
+    requires room { AreRoomy tokens.items }
     ensures tokens { IfOk result (λ read. read.tokens ≡ tokens.items) }
     ensures comments { IfOk result (λ read. read.comments ≡ comments.items) }
     ensures lines { IfOk result (λ read. read.lines ≡ lines.items) }
@@ -134,14 +138,17 @@ fn read_cut<'a>(
     text: &'a str,
     characters: &[char],
     cut: &Cut,
+    setting: Setting,
 ) -> Result<Tokens<'a>, TokenFault>
     requires same { characters.now ≡ chars text.now }
     requires short { length text.now < 2 ^ 32 }
+    requires lines { setting.from.line + length text.now ≤ 2 ^ 32 }
+    requires columns { setting.from.col + length text.now ≤ 2 ^ 32 }
     requires cut { IsCut characters.now cut.now.pieces.items cut.now.stop }
-    ensures read { IfOk result (IsRead text.now) }
-    ensures fault { IfErr result (OnFault (IsTextFault text.now)) }
+    ensures read { IfOk result (IsRead setting text.now) }
+    ensures fault { IfErr result (OnFault (IsTextFault setting text.now)) }
 {
-    let Ok(scanned) = scan(alloc, text, characters, cut.pieces.as_slice()) else {
+    let Ok(scanned) = scan(alloc, text, characters, cut.pieces.as_slice(), setting) else {
         return Err(TokenFault::Memory);
     };
     let Scanned {
@@ -157,22 +164,24 @@ fn read_cut<'a>(
             Ok(read) => Ok(read),
             Err(_) => Err(TokenFault::Memory),
         },
-        Err(LayoutFault::At(n, cause)) => Err(text_fault(text, characters, cut, n, cause)),
+        Err(LayoutFault::At(n, cause)) => Err(text_fault(text, characters, cut, setting, n, cause)),
         Err(LayoutFault::Memory) => Err(TokenFault::Memory),
     }
 }
 
 /// Reads a text.
-fn read<'a>(alloc: Global, text: &'a str) -> Result<Tokens<'a>, TokenFault>
-    requires { length text.now < 2 ^ 32 }
-    ensures read { IfOk result (IsRead text.now) }
-    ensures fault { IfErr result (OnFault (IsTextFault text.now)) }
+fn read<'a>(alloc: Global, text: &'a str, setting: Setting) -> Result<Tokens<'a>, TokenFault>
+    requires short { length text.now < 2 ^ 32 }
+    requires lines { setting.from.line + length text.now ≤ 2 ^ 32 }
+    requires columns { setting.from.col + length text.now ≤ 2 ^ 32 }
+    ensures read { IfOk result (IsRead setting text.now) }
+    ensures fault { IfErr result (OnFault (IsTextFault setting text.now)) }
 {
     let Ok(all) = characters(alloc, text) else {
         return Err(TokenFault::Memory);
     };
     match cut(alloc, all.as_slice()) {
-        Ok(pieces) => read_cut(alloc, text, all.as_slice(), &pieces),
+        Ok(pieces) => read_cut(alloc, text, all.as_slice(), &pieces, setting),
         Err(_) => Err(TokenFault::Memory),
     }
 }
@@ -184,7 +193,7 @@ fn read_source<'a>(alloc: Global, bytes: &'a [u8]) -> Result<Tokens<'a>, TokenFa
     ensures fault { IfErr result (OnFault (IsFirstFault bytes.now)) }
 {
     match decode(bytes) {
-        Ok(text) => read(alloc, text),
+        Ok(text) => read(alloc, text, whole()),
         Err(fault) => Err(file_fault(bytes, fault)),
     }
 }
@@ -202,4 +211,22 @@ pub fn tokenize<'a>(alloc: Global, bytes: &'a [u8]) -> Result<Tokens<'a>, TokenF
     ensures every_fault { (pos : Pos) (cause : TokenCause) → IsFirstFault bytes.now pos cause → FaultsOnly result pos cause }
 {
     read_source(alloc, bytes)
+}
+
+/// The tokens of a part of a source that stands inside brackets, as the expression of an f-string's field, or its first
+/// fault: line ends and indentation do not count, the brackets around it are not counted, and places count from `at`.
+/// There is one logical line, or none where there is no token.
+pub fn tokenize_field<'a>(alloc: Global, text: &'a str, at: Pos) -> Result<Tokens<'a>, TokenFault>
+    requires lines { at.line + length text.now < 2 ^ 32 }
+    requires columns { at.col + length text.now < 2 ^ 32 }
+    // What is given is what the part is read as.
+    ensures tokens { IfOk result (IsRead (inside_at at) text.now) }
+    // Whatever it is read as is given, unless memory runs out.
+    ensures every { (read : Tokenized) → IsRead (inside_at at) text.now read → GivesOnly result read }
+    // A fault stands first where it is said.
+    ensures fault { IfErr result (OnFault (IsTextFault (inside_at at) text.now)) }
+    // And where one stands first it is answered.
+    ensures every_fault { (pos : Pos) (cause : TokenCause) → IsTextFault (inside_at at) text.now pos cause → FaultsOnly result pos cause }
+{
+    read(alloc, text, inside_at(at))
 }

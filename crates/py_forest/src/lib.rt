@@ -1,0 +1,10 @@
+//! Trees in the making: what a parser has read so far, as a list of trees whose rows a builder keeps.
+#![tactic(auto)]
+
+mod fault;
+mod forest;
+mod top;
+
+pub use fault::Fault;
+pub use forest::Forest;
+pub use top::Top;
