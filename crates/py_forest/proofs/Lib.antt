@@ -1,1 +1,3 @@
 pub mod TreeLaws
+pub mod KindLaws
+pub mod BracketLaws

@@ -88,3 +88,6 @@ pub row_of_many : {T : Type 0} (node_over : List T → Node) (ts : List T) (ys :
 row_of_many node_over ts [] l = absurd (omega arith)
 row_of_many node_over ts (y ∷ []) l = absurd (omega arith)
 row_of_many node_over ts (y ∷ z ∷ ys) l = refl
+
+pub cut_tops : (rows : List Row) (tops cut : List Top) (mark : ℕ) → cut ≡ take mark tops → All (IsTop rows) tops → All (IsTop rows) cut
+cut_tops rows tops cut mark e made = rw e (All-take (IsTop rows) mark tops made)

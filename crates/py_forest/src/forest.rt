@@ -70,6 +70,13 @@ impl Forest {
         Ok(())
     }
 
+    /// Only the trees before `mark` stay.
+    pub fn cut(&mut self, mark: usize)
+        ensures { trees self.new ≡ take mark (trees self.old) }
+    {
+        self.tops.truncate(mark);
+    }
+
     /// A node without kids behind the trees.
     pub fn leaf(
         &mut self,

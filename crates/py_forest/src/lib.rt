@@ -1,8 +1,10 @@
 //! Trees in the making: what a parser has read so far, as a list of trees whose rows a builder keeps.
 #![tactic(auto)]
 
+mod brackets;
 mod fault;
 mod forest;
+mod kinds;
 mod top;
 
 pub use fault::Fault;
