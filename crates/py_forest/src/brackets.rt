@@ -18,11 +18,10 @@ impl Forest {
     /// The trees from `mark` on become what round brackets from `start` up to `rest` hold.
     #[tactic(auto, using(crate::proofs::BracketLaws::parentheses_none, crate::proofs::BracketLaws::parentheses_one, crate::proofs::BracketLaws::parentheses_more, crate::proofs::BracketLaws::as_it_was))]
     pub fn in_parentheses(&mut self, mark: usize, line: &Line, start: usize, rest: usize) -> Result<(), Fault>
-        requires { mark ≤ length (trees self.old) }
         ensures ok { OnOk result (trees self.new ≡ take mark (trees self.old) ++ in_parentheses_spec (before (drop start line.now) (drop rest line.now)) (drop mark (trees self.old))) }
         ensures err { IfErr result (λ e. e ≡ Memory) }
     {
-        let count = self.len() - mark;
+        let count = self.len().saturating_sub(mark);
         if count == 0 {
             return self.reduce(Kind::Tuple, mark, line, start, rest);
         }
@@ -41,7 +40,6 @@ impl Forest {
 
     /// The trees from `mark` on become what square brackets hold.
     pub fn in_brackets(&mut self, mark: usize, line: &Line, start: usize, rest: usize) -> Result<(), Fault>
-        requires { mark ≤ length (trees self.old) }
         ensures ok { OnOk result (trees self.new ≡ take mark (trees self.old) ++ in_brackets_spec (before (drop start line.now) (drop rest line.now)) (drop mark (trees self.old))) }
         ensures err { IfErr result (λ e. e ≡ Memory) }
     {
@@ -55,11 +53,10 @@ impl Forest {
     /// The trees from `mark` on become what braces hold.
     #[tactic(auto, using(crate::proofs::BracketLaws::braces_none, crate::proofs::BracketLaws::braces_some))]
     pub fn in_braces(&mut self, mark: usize, line: &Line, start: usize, rest: usize) -> Result<(), Fault>
-        requires { mark ≤ length (trees self.old) }
         ensures ok { OnOk result (trees self.new ≡ take mark (trees self.old) ++ in_braces_spec (before (drop start line.now) (drop rest line.now)) (drop mark (trees self.old))) }
         ensures err { IfErr result (λ e. e ≡ Memory) }
     {
-        if mark == self.len() {
+        if mark >= self.len() {
             return self.reduce(Kind::Dict, mark, line, start, rest);
         }
         if is_of_dict(self.kind(mark)) {
@@ -78,7 +75,6 @@ impl Forest {
     /// The trees from `mark` on become what the brackets of a call hold.
     #[tactic(auto, using(crate::proofs::BracketLaws::as_it_was))]
     pub fn call_arguments(&mut self, mark: usize, line: &Line, start: usize, rest: usize) -> Result<(), Fault>
-        requires { mark ≤ length (trees self.old) }
         ensures ok { OnOk result (trees self.new ≡ take mark (trees self.old) ++ call_arguments_spec (before (drop start line.now) (drop rest line.now)) (drop mark (trees self.old))) }
         ensures err { IfErr result (λ e. e ≡ Memory) }
     {
@@ -92,7 +88,6 @@ impl Forest {
     /// The trees from `mark` on become a parameter with a star.
     #[tactic(auto, using(crate::proofs::BracketLaws::star_none, crate::proofs::BracketLaws::star_one, crate::proofs::BracketLaws::star_more))]
     pub fn star_parameter(&mut self, mark: usize, line: &Line, start: usize, rest: usize) -> Result<(), Fault>
-        requires { mark ≤ length (trees self.old) }
         ensures ok { OnOk result (trees self.new ≡ take mark (trees self.old) ++ star_parameter_spec (before (drop start line.now) (drop rest line.now)) (drop mark (trees self.old))) }
         ensures err { IfErr result (λ e. e ≡ Memory) }
     {

@@ -69,10 +69,9 @@ impl Forest {
     /// Whether an element with clauses stands from `mark` on.
     #[tactic(auto, using(crate::proofs::KindLaws::comprehension_is, crate::proofs::KindLaws::comprehension_short))]
     pub fn is_comprehension(&self, mark: usize) -> bool
-        requires { mark ≤ length (trees self.now) }
         ensures { result ≡ is_comprehension_spec (drop mark (trees self.now)) }
     {
-        if self.len() - mark > 1 {
+        if self.len().saturating_sub(mark) > 1 {
             is_clause(self.kind(mark + 1))
         } else {
             false
@@ -82,10 +81,9 @@ impl Forest {
     /// Whether items alone, or elements alone, stand from `mark` on.
     #[tactic(auto, using(crate::proofs::KindLaws::alike_none, crate::proofs::KindLaws::alike_some, crate::proofs::KindLaws::all_next, crate::proofs::KindLaws::all_end))]
     pub fn are_alike(&self, mark: usize) -> bool
-        requires { mark ≤ length (trees self.now) }
         ensures { result ≡ are_alike_spec (drop mark (trees self.now)) }
     {
-        if mark == self.len() {
+        if mark >= self.len() {
             return true;
         }
         let of_dict = is_of_dict(self.kind(mark));
@@ -100,7 +98,6 @@ impl Forest {
     /// Whether arguments stand in order from `mark` on.
     #[tactic(auto, using(crate::proofs::KindLaws::order_next, crate::proofs::KindLaws::order_end))]
     pub fn in_order(&self, mark: usize) -> bool
-        requires { mark ≤ length (trees self.now) }
         ensures { result ≡ in_order_spec (drop mark (trees self.now)) }
     {
         let mut order = 0;
@@ -116,7 +113,6 @@ impl Forest {
     /// Whether arguments in order, or a plain one with clauses, stand from `mark` on.
     #[tactic(auto, using(crate::proofs::KindLaws::plain_first))]
     pub fn are_arguments(&self, mark: usize) -> bool
-        requires { mark ≤ length (trees self.now) }
         ensures { result ≡ are_arguments_spec (drop mark (trees self.now)) }
     {
         if self.is_comprehension(mark) {

@@ -2,9 +2,13 @@
 #![tactic(auto)]
 
 mod brackets;
+mod changes;
 mod fault;
 mod forest;
 mod kinds;
+mod parameters;
+mod targets;
+mod texts;
 mod top;
 
 pub use fault::Fault;
