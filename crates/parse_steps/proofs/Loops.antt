@@ -1,15 +1,15 @@
 -- Loops of the parser's functions: what is read again and again.
-use Rattle.std.proofs.Common.{◌≡◌, ℕ, zero, suc, ◌≤◌, ◌<◌, true, false, List, [], ◌∷◌, ◌++◌, length, drop, refl, sym, ap, ◌∙◌, length-append, arith}
+use Rattle.std.proofs.Common.{◌≡◌, ℕ, zero, suc, ◌+◌, ◌≤◌, ◌<◌, Bool, true, false, List, [], ◌∷◌, ◌++◌, length, take, drop, refl, sym, ap, ◌∙◌, length-append, arith}
 use Rattle.std.proofs.lemmas.List.{append-nil}
 use Rattle.tree_nodes.specs.Trees.{Tree}
 use Rattle.py_language.specs.Sets.{at}
-use Rattle.py_language.specs.Readers.{Read, got, fails, behind, after, both, times, many, more_items, separated, Cont, continue, turns, in_turns}
+use Rattle.py_language.specs.Readers.{Read, got, fails, before, make, behind, after, both, nothing, times, many, skipped, more_items, separated, Cont, continue, turns, in_turns}
 use Rattle.py_grammar.specs.Terminals.{Terminal, code}
 use Rattle.py_grammar.specs.Reading.{LineReader}
 use Rattle.py_forest.specs.declared.fault.Fault.{Fault}
 use Rattle.py_forest.specs.declared.fault.Fault.TheVariants as faults
 use Rattle.parse_steps.specs.Runs.{Failed}
-use Rattle.parse_steps.proofs.Runs.{behind_after_is}
+use Rattle.parse_steps.proofs.Runs.{behind_after_is, behind_make}
 
 pub behind_grows : (b m : List Tree) (r : Read Terminal) (ts : List Terminal) → behind b r ≡ got m ts → length b ≤ length m
 behind_grows b m fails ts e = absurd cc
@@ -158,3 +158,18 @@ turns_failed faults.NoForm first k start all below b mark ts l a em step = l.sam
     go : (fuel : ℕ) → length ts ≤ fuel → behind below (turns code first k fuel start l.tops ts) ≡ fails
     go zero r = absurd (omega (arith, at_long first ts a))
     go (suc n) r = let h = none in rw (a, h) refl
+
+-- ---- nodes over what was read
+
+-- the trees from mark on become others
+pub made_done : (over : List Terminal → List Tree → List Tree) (all : List Terminal) (b m n : List Tree) (mark : ℕ) (r : Read Terminal) (rest : List Terminal) → behind b r ≡ got m rest → mark ≡ length b
+    → n ≡ take mark m ++ over (before all rest) (drop mark m) → behind b (make over all r) ≡ got n rest
+made_done over all b m n mark r rest e l g = behind_make b over all r ∙ rw (e, g, l) refl
+
+pub failed_make : (e : Fault) (b : List Tree) (over : List Terminal → List Tree → List Tree) (all : List Terminal) (r : Read Terminal) → Failed e (behind b r) → Failed e (behind b (make over all r))
+failed_make faults.Memory b over all r h = tt
+failed_make faults.NoForm b over all r h = rw (behind_make b over all r, h) refl
+
+pub failed_after : (e : Fault) (b : List Tree) (r : Read Terminal) (q : LineReader) → Failed e (behind b r) → Failed e (behind b (after r q))
+failed_after faults.Memory b r q h = tt
+failed_after faults.NoForm b r q h = rw (behind_after_is b r q, h) refl

@@ -6,25 +6,23 @@ use Rattle.py_language.specs.Readers.{Read, got, fails, behind, after, make, fil
 use Rattle.py_grammar.specs.Terminals.{Terminal, code}
 use Rattle.py_grammar.specs.Reading.{LineReader}
 
-abbrev pub Leaves : (ℕ → ℕ → Type 0) → Read Terminal → List Terminal → Type 0
-Leaves below r ts = (u : List Tree) (rest : List Terminal) → r ≡ got u rest → below (length rest) (length ts)
-
 -- what is left is no longer
-abbrev pub Keeps : LineReader → Type 0
-Keeps p = (ts : List Terminal) (u : List Tree) (rest : List Terminal) → p ts ≡ got u rest → length rest ≤ length ts
+pub record Keeps (p : LineReader) : Type 0 where
+  pub left : (ts : List Terminal) (u : List Tree) (rest : List Terminal) → p ts ≡ got u rest → length rest ≤ length ts
 
 -- what is left is shorter
-abbrev pub Shrinks : LineReader → Type 0
-Shrinks p = (ts : List Terminal) (u : List Tree) (rest : List Terminal) → p ts ≡ got u rest → length rest < length ts
+pub record Shrinks (p : LineReader) : Type 0 where
+  pub left : (ts : List Terminal) (u : List Tree) (rest : List Terminal) → p ts ≡ got u rest → length rest < length ts
 
-abbrev pub KeepsOn : Cont Terminal → Type 0
-KeepsOn k = (all : List Terminal) (u : List Tree) (ts : List Terminal) (v : List Tree) (rest : List Terminal) → k all u ts ≡ got v rest → length rest ≤ length ts
+-- the same behind what was read
+pub record KeepsOn (k : Cont Terminal) : Type 0 where
+  pub left : (all : List Terminal) (u : List Tree) (ts : List Terminal) (v : List Tree) (rest : List Terminal) → k all u ts ≡ got v rest → length rest ≤ length ts
 
-abbrev pub ShrinksOn : Cont Terminal → Type 0
-ShrinksOn k = (all : List Terminal) (u : List Tree) (ts : List Terminal) (v : List Tree) (rest : List Terminal) → k all u ts ≡ got v rest → length rest < length ts
+pub record ShrinksOn (k : Cont Terminal) : Type 0 where
+  pub left : (all : List Terminal) (u : List Tree) (ts : List Terminal) (v : List Tree) (rest : List Terminal) → k all u ts ≡ got v rest → length rest < length ts
 
 pub keeps : {p : LineReader} → Shrinks p → Keeps p
-keeps s ts u rest e = omega (arith, s ts u rest e)
+keeps s = record { left = λ ts u rest e. omega (arith, s.left ts u rest e) }
 
 -- ---- what was read
 
@@ -54,84 +52,90 @@ got_continue all (got u mid) k out rest e = (u, mid, refl, e)
 
 -- ---- by the combinators
 
-pub shrinks_skipped : (set : List ℕ) → Shrinks (skipped code set)
-shrinks_skipped set [] u rest e = absurd cc
-shrinks_skipped set (t ∷ ts) u rest e = go (mem (code t) set) e
+shrinks_skipped_left : (set : List ℕ) (ts : List Terminal) (u : List Tree) (rest : List Terminal) → skipped code set ts ≡ got u rest → length rest < length ts
+shrinks_skipped_left set [] u rest e = absurd cc
+shrinks_skipped_left set (t ∷ ts) u rest e = go (mem (code t) set) e
   where
     go : (c : Bool) → (if c then got [] ts else fails) ≡ got u rest → length rest < length (t ∷ ts)
     go true h = let same : ts ≡ rest = cc in omega (arith, ap length same)
     go false h = absurd cc
 
-pub shrinks_shown : (node_of : Terminal → Node) (set : List ℕ) → Shrinks (shown code node_of set)
-shrinks_shown node_of set [] u rest e = absurd cc
-shrinks_shown node_of set (t ∷ ts) u rest e = go (mem (code t) set) e
+pub shrinks_skipped : (set : List ℕ) → Shrinks (skipped code set)
+shrinks_skipped set = record { left = shrinks_skipped_left set }
+
+shrinks_shown_left : (node_of : Terminal → Node) (set : List ℕ) (ts : List Terminal) (u : List Tree) (rest : List Terminal) → shown code node_of set ts ≡ got u rest → length rest < length ts
+shrinks_shown_left node_of set [] u rest e = absurd cc
+shrinks_shown_left node_of set (t ∷ ts) u rest e = go (mem (code t) set) e
   where
     go : (c : Bool) → (if c then got (record { node = node_of t; kids = none } ∷ []) ts else fails) ≡ got u rest → length rest < length (t ∷ ts)
     go true h = let same : ts ≡ rest = cc in omega (arith, ap length same)
     go false h = absurd cc
 
+pub shrinks_shown : (node_of : Terminal → Node) (set : List ℕ) → Shrinks (shown code node_of set)
+shrinks_shown node_of set = record { left = shrinks_shown_left node_of set }
+
 pub keeps_nothing : Keeps nothing
-keeps_nothing ts u rest e = let same : ts ≡ rest = cc in omega (arith, ap length same)
+keeps_nothing = record { left = λ ts u rest e. let same : ts ≡ rest = cc in omega (arith, ap length same) }
 
 pub keeps_both : {p q : LineReader} → Keeps p → Keeps q → Keeps (both p q)
-keeps_both {p} {q} A B ts u rest e =
+keeps_both {p} {q} A B = record { left = λ ts u rest e.
     let (x, mid, v, f, g) = got_after (p ts) q u rest e in
-    omega (arith, A ts x mid f, B mid v rest g)
+    omega (arith, A.left ts x mid f, B.left mid v rest g) }
 
 pub shrinks_both : {p q : LineReader} → Shrinks p → Keeps q → Shrinks (both p q)
-shrinks_both {p} {q} A B ts u rest e =
+shrinks_both {p} {q} A B = record { left = λ ts u rest e.
     let (x, mid, v, f, g) = got_after (p ts) q u rest e in
-    omega (arith, A ts x mid f, B mid v rest g)
+    omega (arith, A.left ts x mid f, B.left mid v rest g) }
 
 pub keeps_choose : {p q : LineReader} (set : List ℕ) → Keeps p → Keeps q → Keeps (choose code set p q)
-keeps_choose {p} {q} set A B ts u rest e = go (at code set ts) e
+keeps_choose {p} {q} set A B = record { left = λ ts u rest e. go ts u rest (at code set ts) e }
   where
-    go : (c : Bool) → (if c then p ts else q ts) ≡ got u rest → length rest ≤ length ts
-    go true h = A ts u rest h
-    go false h = B ts u rest h
+    go : (ts : List Terminal) (u : List Tree) (rest : List Terminal) (c : Bool) → (if c then p ts else q ts) ≡ got u rest → length rest ≤ length ts
+    go ts u rest true h = A.left ts u rest h
+    go ts u rest false h = B.left ts u rest h
 
 pub shrinks_choose : {p q : LineReader} (set : List ℕ) → Shrinks p → Shrinks q → Shrinks (choose code set p q)
-shrinks_choose {p} {q} set A B ts u rest e = go (at code set ts) e
+shrinks_choose {p} {q} set A B = record { left = λ ts u rest e. go ts u rest (at code set ts) e }
   where
-    go : (c : Bool) → (if c then p ts else q ts) ≡ got u rest → length rest < length ts
-    go true h = A ts u rest h
-    go false h = B ts u rest h
+    go : (ts : List Terminal) (u : List Tree) (rest : List Terminal) (c : Bool) → (if c then p ts else q ts) ≡ got u rest → length rest < length ts
+    go ts u rest true h = A.left ts u rest h
+    go ts u rest false h = B.left ts u rest h
 
 pub keeps_by_two : {p q : LineReader} (one two : List ℕ) → Keeps p → Keeps q → Keeps (choose_by_two code one two p q)
-keeps_by_two {p} {q} one two A B ts u rest e = go (at_two code one two ts) e
+keeps_by_two {p} {q} one two A B = record { left = λ ts u rest e. go ts u rest (at_two code one two ts) e }
   where
-    go : (c : Bool) → (if c then p ts else q ts) ≡ got u rest → length rest ≤ length ts
-    go true h = A ts u rest h
-    go false h = B ts u rest h
+    go : (ts : List Terminal) (u : List Tree) (rest : List Terminal) (c : Bool) → (if c then p ts else q ts) ≡ got u rest → length rest ≤ length ts
+    go ts u rest true h = A.left ts u rest h
+    go ts u rest false h = B.left ts u rest h
 
 pub shrinks_by_two : {p q : LineReader} (one two : List ℕ) → Shrinks p → Shrinks q → Shrinks (choose_by_two code one two p q)
-shrinks_by_two {p} {q} one two A B ts u rest e = go (at_two code one two ts) e
+shrinks_by_two {p} {q} one two A B = record { left = λ ts u rest e. go ts u rest (at_two code one two ts) e }
   where
-    go : (c : Bool) → (if c then p ts else q ts) ≡ got u rest → length rest < length ts
-    go true h = A ts u rest h
-    go false h = B ts u rest h
+    go : (ts : List Terminal) (u : List Tree) (rest : List Terminal) (c : Bool) → (if c then p ts else q ts) ≡ got u rest → length rest < length ts
+    go ts u rest true h = A.left ts u rest h
+    go ts u rest false h = B.left ts u rest h
 
 pub keeps_optional : {p : LineReader} (set : List ℕ) → Keeps p → Keeps (optional code set p)
 keeps_optional set A = keeps_choose set A keeps_nothing
 
 pub keeps_made : {p : LineReader} (over : List Terminal → List Tree → List Tree) → Keeps p → Keeps (made over p)
-keeps_made {p} over A ts u rest e = let (v, f) = got_make over ts (p ts) u rest e in A ts v rest f
+keeps_made {p} over A = record { left = λ ts u rest e. let (v, f) = got_make over ts (p ts) u rest e in A.left ts v rest f }
 
 pub shrinks_made : {p : LineReader} (over : List Terminal → List Tree → List Tree) → Shrinks p → Shrinks (made over p)
-shrinks_made {p} over A ts u rest e = let (v, f) = got_make over ts (p ts) u rest e in A ts v rest f
+shrinks_made {p} over A = record { left = λ ts u rest e. let (v, f) = got_make over ts (p ts) u rest e in A.left ts v rest f }
 
 pub keeps_where : {p : LineReader} (test : List Tree → Bool) → Keeps p → Keeps (where_ test p)
-keeps_where {p} test A ts u rest e = A ts u rest (got_filter test (p ts) u rest e)
+keeps_where {p} test A = record { left = λ ts u rest e. A.left ts u rest (got_filter test (p ts) u rest e) }
 
 pub shrinks_where : {p : LineReader} (test : List Tree → Bool) → Shrinks p → Shrinks (where_ test p)
-shrinks_where {p} test A ts u rest e = A ts u rest (got_filter test (p ts) u rest e)
+shrinks_where {p} test A = record { left = λ ts u rest e. A.left ts u rest (got_filter test (p ts) u rest e) }
 
 keeps_times : {p : LineReader} (set : List ℕ) → Keeps p → (n : ℕ) → Keeps (times code set p n)
 keeps_times set A zero = keeps_nothing
 keeps_times set A (suc n) = keeps_choose set (keeps_both A (keeps_times set A n)) keeps_nothing
 
 pub keeps_many : {p : LineReader} (set : List ℕ) → Keeps p → Keeps (many code set p)
-keeps_many set A ts = keeps_times set A (length ts) ts
+keeps_many set A = record { left = λ ts. (keeps_times set A (length ts)).left ts }
 
 pub keeps_some : {p : LineReader} (set : List ℕ) → Keeps p → Keeps (some code set p)
 keeps_some set A = keeps_both A (keeps_many set A)
@@ -145,7 +149,7 @@ keeps_more separator set A (suc n) =
     keeps_choose separator (keeps_both (keeps (shrinks_skipped separator)) (keeps_choose set (keeps_both A (keeps_more separator set A n)) keeps_nothing)) keeps_nothing
 
 pub keeps_separated : {p : LineReader} (separator set : List ℕ) → Keeps p → Keeps (separated code separator set p)
-keeps_separated separator set A = keeps_both A (λ ts. keeps_more separator set A (length ts) ts)
+keeps_separated separator set A = keeps_both A (record { left = λ ts. (keeps_more separator set A (length ts)).left ts })
 
 pub shrinks_bracketed : {p : LineReader} (opening closing : List ℕ) → Keeps p → Shrinks (bracketed code opening closing p)
 shrinks_bracketed opening closing A = shrinks_both (shrinks_skipped opening) (keeps_both A (keeps (shrinks_skipped closing)))
@@ -153,68 +157,68 @@ shrinks_bracketed opening closing A = shrinks_both (shrinks_skipped opening) (ke
 -- ---- behind what was read
 
 pub keeps_followed : {p : LineReader} {k : Cont Terminal} → Keeps p → KeepsOn k → Keeps (followed p k)
-keeps_followed {p} {k} A K ts u rest e =
+keeps_followed {p} {k} A K = record { left = λ ts u rest e.
     let (v, mid, f, g) = got_continue ts (p ts) k u rest e in
-    omega (arith, A ts v mid f, K ts v mid u rest g)
+    omega (arith, A.left ts v mid f, K.left ts v mid u rest g) }
 
 pub keeps_extended : {q : LineReader} (over : List Terminal → List Tree → List Tree) → Keeps q → KeepsOn (extended over q)
-keeps_extended {q} over A all u ts v rest e = let (w, f) = got_make (λ front x. over front (u ++ x)) all (q ts) v rest e in A ts w rest f
+keeps_extended {q} over A = record { left = λ all u ts v rest e. let (w, f) = got_make (λ front x. over front (u ++ x)) all (q ts) v rest e in A.left ts w rest f }
 
 pub shrinks_extended : {q : LineReader} (over : List Terminal → List Tree → List Tree) → Shrinks q → ShrinksOn (extended over q)
-shrinks_extended {q} over A all u ts v rest e = let (w, f) = got_make (λ front x. over front (u ++ x)) all (q ts) v rest e in A ts w rest f
+shrinks_extended {q} over A = record { left = λ all u ts v rest e. let (w, f) = got_make (λ front x. over front (u ++ x)) all (q ts) v rest e in A.left ts w rest f }
 
 pub keeps_extended_where : {q : LineReader} (test : List Tree → Bool) (over : List Terminal → List Tree → List Tree) → Keeps q → KeepsOn (extended_where test over q)
-keeps_extended_where {q} test over A all u ts v rest e =
+keeps_extended_where {q} test over A = record { left = λ all u ts v rest e.
     let (w, f) = got_make (λ front x. over front (u ++ x)) all (filter (λ x. test (u ++ x)) (q ts)) v rest e in
-    A ts w rest (got_filter (λ x. test (u ++ x)) (q ts) w rest f)
+    A.left ts w rest (got_filter (λ x. test (u ++ x)) (q ts) w rest f) }
 
 pub keeps_nothing_more : KeepsOn nothing_more
-keeps_nothing_more all u ts v rest e = let same : ts ≡ rest = cc in omega (arith, ap length same)
+keeps_nothing_more = record { left = λ all u ts v rest e. let same : ts ≡ rest = cc in omega (arith, ap length same) }
 
 pub keeps_finished : (over : List Terminal → List Tree → List Tree) → KeepsOn (finished over)
-keeps_finished over all u ts v rest e = let same : ts ≡ rest = cc in omega (arith, ap length same)
+keeps_finished over = record { left = λ all u ts v rest e. let same : ts ≡ rest = cc in omega (arith, ap length same) }
 
 pub keeps_pick : {k l : Cont Terminal} (set : List ℕ) → KeepsOn k → KeepsOn l → KeepsOn (pick code set k l)
-keeps_pick {k} {l} set A B all u ts v rest e = go (at code set ts) e
+keeps_pick {k} {l} set A B = record { left = λ all u ts v rest e. go all u ts v rest (at code set ts) e }
   where
-    go : (c : Bool) → (if c then k all u ts else l all u ts) ≡ got v rest → length rest ≤ length ts
-    go true h = A all u ts v rest h
-    go false h = B all u ts v rest h
+    go : (all : List Terminal) (u : List Tree) (ts : List Terminal) (v : List Tree) (rest : List Terminal) (c : Bool) → (if c then k all u ts else l all u ts) ≡ got v rest → length rest ≤ length ts
+    go all u ts v rest true h = A.left all u ts v rest h
+    go all u ts v rest false h = B.left all u ts v rest h
 
 pub shrinks_pick : {k l : Cont Terminal} (set : List ℕ) → ShrinksOn k → ShrinksOn l → ShrinksOn (pick code set k l)
-shrinks_pick {k} {l} set A B all u ts v rest e = go (at code set ts) e
+shrinks_pick {k} {l} set A B = record { left = λ all u ts v rest e. go all u ts v rest (at code set ts) e }
   where
-    go : (c : Bool) → (if c then k all u ts else l all u ts) ≡ got v rest → length rest < length ts
-    go true h = A all u ts v rest h
-    go false h = B all u ts v rest h
+    go : (all : List Terminal) (u : List Tree) (ts : List Terminal) (v : List Tree) (rest : List Terminal) (c : Bool) → (if c then k all u ts else l all u ts) ≡ got v rest → length rest < length ts
+    go all u ts v rest true h = A.left all u ts v rest h
+    go all u ts v rest false h = B.left all u ts v rest h
 
 pub keeps_maybe : {k : Cont Terminal} (set : List ℕ) → KeepsOn k → KeepsOn (maybe_more code set k)
 keeps_maybe set A = keeps_pick set A keeps_nothing_more
 
 pub keeps_on : {k : Cont Terminal} → ShrinksOn k → KeepsOn k
-keeps_on s all u ts v rest e = omega (arith, s all u ts v rest e)
+keeps_on s = record { left = λ all u ts v rest e. omega (arith, s.left all u ts v rest e) }
 
 keeps_then : {k l : Cont Terminal} → KeepsOn k → KeepsOn l → KeepsOn (λ all u ts. continue all (k all u ts) l)
-keeps_then {k} {l} A B all u ts v rest e =
+keeps_then {k} {l} A B = record { left = λ all u ts v rest e.
     let (w, mid, f, g) = got_continue all (k all u ts) l v rest e in
-    omega (arith, A all u ts w mid f, B all w mid v rest g)
+    omega (arith, A.left all u ts w mid f, B.left all w mid v rest g) }
 
 keeps_turns : {k : Cont Terminal} (set : List ℕ) → KeepsOn k → (n : ℕ) → KeepsOn (turns code set k n)
 keeps_turns set A zero = keeps_nothing_more
 keeps_turns set A (suc n) = keeps_maybe set (keeps_then A (keeps_turns set A n))
 
 pub keeps_in_turns : {p : LineReader} {k : Cont Terminal} (set : List ℕ) → Keeps p → KeepsOn k → Keeps (in_turns code p set k)
-keeps_in_turns {p} {k} set A K ts u rest e =
+keeps_in_turns {p} {k} set A K = record { left = λ ts u rest e.
     let (v, mid, f, g) = got_continue ts (p ts) (turns code set k (length ts)) u rest e in
-    omega (arith, A ts v mid f, keeps_turns set K (length ts) ts v mid u rest g)
+    omega (arith, A.left ts v mid f, (keeps_turns set K (length ts)).left ts v mid u rest g) }
 
 -- ---- for what the code has at hand
 
 pub is_kept : {p : LineReader} → Keeps p → (b m : List Tree) (ts rest : List Terminal) → behind b (p ts) ≡ got m rest → length rest ≤ length ts
-is_kept {p} A b m ts rest e = let (u, f) = got_behind b m (p ts) rest e in A ts u rest f
+is_kept {p} A b m ts rest e = let (u, f) = got_behind b m (p ts) rest e in A.left ts u rest f
 
 pub is_shorter : {p : LineReader} → Shrinks p → (b m : List Tree) (ts rest : List Terminal) → behind b (p ts) ≡ got m rest → length rest < length ts
-is_shorter {p} A b m ts rest e = let (u, f) = got_behind b m (p ts) rest e in A ts u rest f
+is_shorter {p} A b m ts rest e = let (u, f) = got_behind b m (p ts) rest e in A.left ts u rest f
 
 pub goes_shorter : {k : Cont Terminal} → ShrinksOn k → (below m : List Tree) (all : List Terminal) (u : List Tree) (ts rest : List Terminal) → behind below (k all u ts) ≡ got m rest → length rest < length ts
-goes_shorter {k} A below m all u ts rest e = let (v, f) = got_behind below m (k all u ts) rest e in A all u ts v rest f
+goes_shorter {k} A below m all u ts rest e = let (v, f) = got_behind below m (k all u ts) rest e in A.left all u ts v rest f

@@ -806,3 +806,5 @@ pub const STATEMENT_FIRST: &[Symbol] = &[
     Symbol::LeftBracket,
     Symbol::LeftBrace,
 ];
+/// `+` alone.
+pub const PLUS: &[Symbol] = &[Symbol::Plus];

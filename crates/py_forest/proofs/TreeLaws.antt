@@ -1,7 +1,7 @@
 -- The trees of a forest, as a node is made of the last of them.
 use Rattle.std.proofs.Common.{◌≡◌, ℕ, zero, suc, ◌+◌, ◌-◌, ◌<◌, ◌≤◌, Bool, true, false, if◌then◌else◌, List, [], ◌∷◌, ◌++◌, length, map, get_or, take, drop, refl, sym, ap, ◌∙◌, arith}
 use Rattle.std.specs.Prelude.{All}
-use Rattle.std.proofs.lemmas.List.{map-append, take-map, drop-map, length-drop, take-append-drop}
+use Rattle.std.proofs.lemmas.List.{drop_all, map-append, take-map, drop-map, length-drop, take-append-drop}
 use Rattle.std.proofs.lemmas.List.Elements.{All-push, All-take}
 use Rattle.tree_nodes.specs.Trees.{Node, Tree, pack}
 use Rattle.tree_nodes.specs.Rows.{Row, tree_of}
@@ -88,3 +88,9 @@ pub row_of_many : {T : Type 0} (node_over : List T → Node) (ts : List T) (ys :
 row_of_many node_over ts [] l = absurd (omega arith)
 row_of_many node_over ts (y ∷ []) l = absurd (omega arith)
 row_of_many node_over ts (y ∷ z ∷ ys) l = refl
+
+pub cut_tops : (rows : List Row) (tops cut : List Top) (mark : ℕ) → cut ≡ take mark tops → All (IsTop rows) tops → All (IsTop rows) cut
+cut_tops rows tops cut mark e made = rw e (All-take (IsTop rows) mark tops made)
+
+pub drop_past : (mark : ℕ) (tops : List Top) → length tops ≤ mark → drop mark tops ≡ []
+drop_past mark tops l = drop_all mark tops l

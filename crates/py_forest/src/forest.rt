@@ -13,6 +13,7 @@ use tree_nodes::{Kind, TreeBuilder};
 /// Trees in order. Rows that no tree has any more are left behind in the builder.
 #[derive(Debug, Drop)]
 pub struct Forest {
+    pub alloc: Global,
     pub builder: TreeBuilder,
     pub tops: Vec<Top>,
     /// The rows of a node's kids, while it is made.
@@ -34,6 +35,7 @@ impl Forest {
         ensures { trees result ≡ [] }
     {
         Forest {
+            alloc,
             builder: TreeBuilder::new(alloc),
             tops: Vec::new(alloc),
             below: Vec::new(alloc),
@@ -57,7 +59,6 @@ impl Forest {
         name: Option<&str>,
         mark: usize,
     ) -> Result<(), Fault>
-        requires { mark ≤ length (trees self.old) }
         ensures ok { OnOk result (trees self.new ≡ take mark (trees self.old) ++ record { node = record { kind = kind; pos = pos; end_line = end_line; name = option_copied name.entry }; kids = pack (drop mark (trees self.old)) } ∷ []) }
         ensures err { IfErr result (λ e. e ≡ Memory) }
     {
@@ -68,6 +69,13 @@ impl Forest {
         self.tops.truncate(mark);
         self.tops.push(Top { row, kind })?;
         Ok(())
+    }
+
+    /// Only the trees before `mark` stay.
+    pub fn cut(&mut self, mark: usize)
+        ensures { trees self.new ≡ take mark (trees self.old) }
+    {
+        self.tops.truncate(mark);
     }
 
     /// A node without kids behind the trees.
@@ -94,7 +102,6 @@ impl Forest {
         start: usize,
         rest: usize,
     ) -> Result<(), Fault>
-        requires { mark ≤ length (trees self.old) }
         ensures ok { OnOk result (trees self.new ≡ take mark (trees self.old) ++ whole (spanning kind) (before (drop start line.now) (drop rest line.now)) (drop mark (trees self.old))) }
         ensures err { IfErr result (λ e. e ≡ Memory) }
     {
@@ -112,7 +119,6 @@ impl Forest {
         start: usize,
         rest: usize,
     ) -> Result<(), Fault>
-        requires { mark ≤ length (trees self.old) }
         ensures ok { OnOk result (trees self.new ≡ take mark (trees self.old) ++ whole (called kind (λ _. name.now)) (before (drop start line.now) (drop rest line.now)) (drop mark (trees self.old))) }
         ensures err { IfErr result (λ e. e ≡ Memory) }
     {
@@ -130,11 +136,10 @@ impl Forest {
         start: usize,
         rest: usize,
     ) -> Result<(), Fault>
-        requires { mark ≤ length (trees self.old) }
         ensures ok { OnOk result (trees self.new ≡ take mark (trees self.old) ++ row (spanning kind) (before (drop start line.now) (drop rest line.now)) (drop mark (trees self.old))) }
         ensures err { IfErr result (λ e. e ≡ Memory) }
     {
-        if self.len() - mark > 1 {
+        if self.len().saturating_sub(mark) > 1 {
             self.reduce(kind, mark, line, start, rest)?;
         }
         Ok(())

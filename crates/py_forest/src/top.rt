@@ -13,14 +13,18 @@ pub struct Top {
     pub kind: Kind,
 }
 
+#[tactic(auto, using(crate::proofs::TreeLaws::drop_past))]
 /// The rows of the trees from `mark` on, in place of others.
 pub fn rows_from(rows: &mut Vec<u32>, tops: &[Top], mark: usize) -> Result<(), Fault>
-    requires { mark ≤ length tops.now }
     ensures ok { OnOk result (rows.new.items ≡ map row_of (drop mark tops.now)) }
     ensures err { IfErr result (λ e. e ≡ Memory) }
 {
     rows.clear();
-    add_rows(rows, &tops[mark..])
+    if mark < tops.len() {
+        add_rows(rows, &tops[mark..])
+    } else {
+        Ok(())
+    }
 }
 
 /// The rows of some trees behind others.

@@ -5,3 +5,4 @@ pub mod WalkLaws
 pub mod FinishLaws
 pub mod EntryLaws
 pub mod Reading
+pub mod RowAccess

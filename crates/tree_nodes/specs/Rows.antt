@@ -2,7 +2,7 @@
 use Rattle.std.specs.Prelude.{ℕ, List, [], ◌∷◌, ◌++◌, map, slice_index_or, Option}
 use Rattle.lint_values.specs.declared.place.Pos.{Pos}
 use Rattle.tree_nodes.specs.declared.kind.Kind.{Kind}
-use Rattle.tree_nodes.specs.Trees.{Node, Tree, pack}
+use Rattle.tree_nodes.specs.Trees.{Node, Trees, Tree, pack}
 use Rattle.tree_nodes.specs.Back.{no_tree}
 
 -- a node, and the numbers of the rows of its kids
@@ -34,3 +34,7 @@ trees_of rows = trees_from [] rows
 -- the tree that a row stands for
 unfoldable pub tree_of : List Row → ℕ → Tree
 tree_of rows n = slice_index_or (trees_of rows) n no_tree
+
+-- what a tree says, but of another kind and over other kids
+abbrev pub with_kind : Kind → Trees → Tree → Tree
+with_kind kind kids t = record { node = record { kind = kind; pos = t.node.pos; end_line = t.node.end_line; name = t.node.name }; kids = kids }

@@ -2,12 +2,13 @@
 ghost use Rattle.std.specs.Prelude.{◌≡◌, ℕ, map, ◌<◌, ◌+◌, ◌++◌, ◌∷◌, [], length, option_copied, unwrap_or, string_bytes, All, IfOk, OnOk, OnErr};
 ghost use Rattle.std.specs.Str.{IsUtf8};
 ghost use Rattle.tree_nodes.specs.Trees.{pack};
-ghost use Rattle.tree_nodes.specs.Rows.{row_with, tree_of};
+ghost use Rattle.tree_nodes.specs.Rows.{row_with, tree_of, with_kind};
+ghost use Rattle.tree_nodes.specs.Kept.{within, FitsIn};
 ghost use Rattle.tree_nodes.specs.Built.{rows_in, sizes_in, total, IsBuilt};
 
 use crate::Kind;
 use crate::finish::{Open, give_out};
-use crate::label::{Label, Span};
+use crate::label::{Label, Span, text_within};
 use crate::tree::Tree;
 use lint_values::{Memory, Pos};
 use std::alloc::Global;
@@ -97,6 +98,69 @@ impl TreeBuilder {
         Ok(number)
     }
 
+    /// The kind of a row.
+    pub fn kind(&self, row: u32) -> Kind
+        requires { row < length self.now }
+        ensures { result ≡ (tree_of self.now row).node.kind }
+    {
+        self.rows[row as usize].label.kind
+    }
+
+    /// The name of a row.
+    pub fn name(&self, row: u32) -> Option<&str>
+        requires { row < length self.now }
+        ensures { option_copied result ≡ (tree_of self.now row).node.name }
+    {
+        let label = self.rows[row as usize].label;
+        let text = text_within(self.names.as_str(), label.name);
+        if label.is_named { Some(text) } else { None }
+    }
+
+    /// The rows of a row's kids, in the order in which they stand.
+    pub fn kids(&self, row: u32) -> &[u32]
+        requires { row < length self.now }
+        ensures trees { (tree_of self.now row).kids ≡ pack (map (tree_of self.now) result.now) }
+        ensures earlier { All (λ k. k < row) result.now }
+    {
+        let span = self.rows[row as usize].kids;
+        rows_within(self.kids.as_slice(), span)
+    }
+
+    /// Adds a row that says what another says, but is of another kind.
+    pub fn retag(&mut self, row: u32, kind: Kind) -> Result<u32, Memory>
+        requires { row < length self.old }
+        ensures number { IfOk result (λ n. n ≡ length self.old) }
+        ensures ok { OnOk result (length self.new ≡ length self.old + 1) }
+        ensures err { OnErr result (self.new ≡ self.old) }
+        ensures earlier { (n : ℕ) → n < length self.old → tree_of self.new n ≡ tree_of self.old n }
+        ensures tree { IfOk result (λ n. tree_of self.new n ≡ with_kind kind (tree_of self.old row).kids (tree_of self.old row)) }
+    {
+        let number = row_number(self.rows.len())?;
+        let mut new = self.rows[row as usize];
+        new.label.kind = kind;
+        self.rows.push(new)?;
+        Ok(number)
+    }
+
+    /// The same over other kids.
+    pub fn rebuild(&mut self, row: u32, kind: Kind, kids: &[u32]) -> Result<u32, Memory>
+        requires row { row < length self.old }
+        requires kids { All (λ k. k < length self.old) kids.now }
+        ensures number { IfOk result (λ n. n ≡ length self.old) }
+        ensures ok { OnOk result (length self.new ≡ length self.old + 1) }
+        ensures err { OnErr result (self.new ≡ self.old) }
+        ensures earlier { (n : ℕ) → n < length self.old → tree_of self.new n ≡ tree_of self.old n }
+        ensures tree { IfOk result (λ n. tree_of self.new n ≡ with_kind kind (pack (map (tree_of self.old) kids.now)) (tree_of self.old row)) }
+    {
+        let size = size_over(self.rows.as_slice(), kids)?;
+        let number = row_number(self.rows.len())?;
+        let mut label = self.rows[row as usize].label;
+        label.kind = kind;
+        let kids = add_kids(&mut self.kids, kids)?;
+        self.rows.push(BuiltRow { label, kids, size })?;
+        Ok(number)
+    }
+
     /// The tree of a row: the row and those below it. Other rows are left out.
     pub fn finish(self, root: u32) -> Result<Tree, Memory>
         requires { root < length self }
@@ -124,6 +188,14 @@ impl TreeBuilder {
             names,
         })
     }
+}
+
+/// The rows within a span.
+fn rows_within(rows: &[u32], span: Span) -> &[u32]
+    requires { FitsIn (length rows.now) span }
+    ensures { result.now ≡ within rows.now span }
+{
+    &rows[span.start as usize..span.end as usize]
 }
 
 /// The number behind so many rows: all numbers are below `u32::MAX`.

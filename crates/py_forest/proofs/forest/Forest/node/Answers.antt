@@ -6,10 +6,6 @@ use Rattle.py_forest.specs.Forests.{trees, tree_at, row_of}
 use Rattle.py_forest.proofs.TreeLaws.{kids_made, node_tops_or, node_trees}
 use Rattle.py_forest.proofs.forest.Forest.node.Goals as goal
 
-pub rows_from-requires : goal.rows_from-requires
-unfolding trees
-rows_from-requires c = omega (arith, c.requires, ap length c.as_slice.ensures.value, length-map c.args.self.now.tops.items (tree_at c.args.self.now.builder))
-
 pub push-requires : goal.push-requires
 push-requires c =
     kids_made _ _ c.args.mark _ c.args.self.now.tops_are_made (c.as_slice-2.ensures.value ∙ c.in_ok-rows_from.ensures.ok ∙ ap (λ (ts : List Top). map row_of (drop c.args.mark ts)) c.as_slice.ensures.value)
