@@ -2,7 +2,7 @@
 use Rattle.std.specs.Prelude.{◌≡◌, List, [], ◌∷◌, ◌++◌, ◌⊎◌}
 use Rattle.tree_nodes.specs.declared.kind.Kind.{Kind}
 use Rattle.tree_nodes.specs.declared.kind.Kind.TheVariants as kinds
-use Rattle.tree_nodes.specs.Sorts.{Sort, statement, elif_clause, else_clause, handler, star_handler, finally_clause, case_clause, decorator, docstring, with_item, annotation, star_annotation, alias, import_wildcard, as_name, declared_name, parameter, positional_only_mark, star_parameter, keyword_only_parameter, double_star_parameter, single_target, name_read, attribute_read, star_argument, keyword_argument, double_star_argument, slice, slice_colon, slices, dict_item, dict_unpack, comprehension_clause, field, comparison_operator, shift_operator, sum_operator, product_operator, pattern, star_pattern, match_item, match_rest, match_keyword, IsOf, AreOf, only, expression, value, target, any_target, compared, augmented_operator}
+use Rattle.tree_nodes.specs.Sorts.{Sort, statement, elif_clause, else_clause, handler, star_handler, finally_clause, case_clause, decorator, docstring, with_item, annotation, star_annotation, alias, import_wildcard, as_name, declared_name, parameter, positional_only_mark, keyword_only_mark, star_parameter, keyword_only_parameter, double_star_parameter, single_target, name_read, attribute_read, star_argument, keyword_argument, double_star_argument, slice, slice_colon, slices, dict_item, dict_unpack, comprehension_clause, field, comparison_operator, shift_operator, sum_operator, product_operator, pattern, star_pattern, match_item, match_rest, match_keyword, IsOf, AreOf, only, expression, value, target, any_target, compared, augmented_operator}
 
 -- ---- parts of a list of kids
 
@@ -62,7 +62,7 @@ arguments = many (star_argument ∷ expression) ++ many (keyword_argument ∷ st
 
 -- the parameters behind the mark
 abbrev pub later_parameters : List Part
-later_parameters = many (only parameter) ++ maybe (only star_parameter) ++ many (only keyword_only_parameter) ++ maybe (only double_star_parameter)
+later_parameters = many (only parameter) ++ maybe (star_parameter ∷ keyword_only_mark ∷ []) ++ many (only keyword_only_parameter) ++ maybe (only double_star_parameter)
 
 -- what stands in the brackets behind a subscript's expression
 abbrev pub subscripts : List Sort
@@ -178,7 +178,7 @@ shape kinds.Set = sole (some value)
 shape kinds.Dict = sole (many (dict_item ∷ dict_unpack ∷ []))
 shape kinds.ListComprehension = sole (one expression ++ some (only comprehension_clause))
 shape kinds.SetComprehension = sole (one expression ++ some (only comprehension_clause))
-shape kinds.DictComprehension = sole (one expression ++ one expression ++ some (only comprehension_clause))
+shape kinds.DictComprehension = sole (one (only dict_item) ++ some (only comprehension_clause))
 shape kinds.GeneratorExpression = sole (one expression ++ some (only comprehension_clause))
 shape kinds.Yield = sole (maybe value)
 shape kinds.YieldFrom = sole (one expression)

@@ -24,6 +24,7 @@ pub data Sort : Type 0 where
   declared_name : Sort
   parameter : Sort
   positional_only_mark : Sort
+  keyword_only_mark : Sort
   star_parameter : Sort
   keyword_only_parameter : Sort
   double_star_parameter : Sort
@@ -105,6 +106,7 @@ sort_of kinds.DeclaredName = declared_name
 sort_of kinds.Parameter = parameter
 sort_of kinds.PositionalOnlyMark = positional_only_mark
 sort_of kinds.StarParameter = star_parameter
+sort_of kinds.KeywordOnlyMark = keyword_only_mark
 sort_of kinds.KeywordOnlyParameter = keyword_only_parameter
 sort_of kinds.DoubleStarParameter = double_star_parameter
 sort_of kinds.NameTarget = single_target

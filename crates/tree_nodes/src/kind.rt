@@ -101,6 +101,8 @@ pub enum Kind {
     PositionalOnlyMark,
     /// `*args`, without a default.
     StarParameter,
+    /// A bare `*`, before the parameters that only a keyword gives.
+    KeywordOnlyMark,
     /// A parameter behind `*` or `*args`.
     KeywordOnlyParameter,
     /// `**options`, without a default.
@@ -190,7 +192,7 @@ pub enum Kind {
     ListComprehension,
     /// An element, comprehension clauses.
     SetComprehension,
-    /// A key, a value, comprehension clauses.
+    /// An item, comprehension clauses.
     DictComprehension,
     /// An element, comprehension clauses.
     GeneratorExpression,

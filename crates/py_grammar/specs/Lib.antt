@@ -1,0 +1,11 @@
+pub mod Symbols
+pub mod Terminals
+pub mod Words
+pub mod Nodes
+pub mod Tests
+pub mod Expressions
+pub mod Patterns
+pub mod Statements
+pub mod Headers
+pub mod Weights
+pub mod Lines
