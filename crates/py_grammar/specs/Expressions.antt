@@ -9,7 +9,7 @@ use Rattle.py_grammar.specs.declared.symbol.Symbol.TheVariants as s
 use Rattle.py_grammar.specs.declared.entry.Entry.{Entry}
 use Rattle.py_grammar.specs.declared.entry.Entry.TheVariants as e
 use Rattle.py_grammar.specs.Terminals.{Terminal, Form, code, is_one_of, first_of, last_but_one_of}
-use Rattle.py_grammar.specs.Words.{name, number, plain_string, byte_string, format_string, format_string_end, field_open, field_close, simple_atom, and_word, async_word, await_word, else_word, for_word, from_word, if_word, in_word, is_word, lambda_word, not_word, or_word, yield_word, comma, colon, dot, assign, walrus, star, double_star, slash, bar, caret, ampersand, plus, minus, tilde, shift_operator, sum_operator, product_operator, comparison_operator}
+use Rattle.py_grammar.specs.Words.{name, number, plain_string, byte_string, format_string, format_string_end, field_open, field_close, simple_atom, and_word, async_word, await_word, else_word, for_word, from_word, if_word, in_word, is_word, lambda_word, not_word, or_word, yield_word, comma, colon, dot, assign, walrus, star, double_star, slash, bar, caret, ampersand, sign, shift_operator, sum_operator, product_operator, comparison_operator}
 use Rattle.py_grammar.specs.Nodes.{spanning, called, first_text, second_text, last_text, strings_text, atom_leaf, operator_leaf, plain_leaf, Token, Leaf, As, Called, Row, Commas, CommaRest, Tupled, InParentheses, InBrackets, InBraces}
 use Rattle.py_grammar.specs.Tests.{kind_of, in_order, parameters_in_order, with_keyword_only, is_target, as_target}
 
@@ -280,7 +280,7 @@ module _ (self : Entry → Form) where
 
   -- ('+'|'-'|'~') factor | power
   unfoldable pub Factor : Form
-  Factor = Either (Made (whole sign_node) (Then (Either (Token plus) (Either (Token minus) (Token tilde))) (self e.Factor))) Power
+  Factor = Either (Made (whole sign_node) (Then (Token sign) (self e.Factor))) Power
 
   -- factor (('*'|'/'|'//'|'%'|'@') factor)*
   unfoldable pub Term : Form
@@ -310,7 +310,7 @@ module _ (self : Entry → Form) where
   unfoldable pub ComparisonSign : Form
   ComparisonSign =
       Either (Leaf operator_leaf comparison_operator)
-      (Either (As kinds.NotIn (Then (Token not_word) (Token in_word))) (Either (As kinds.Is (Token is_word)) (As kinds.IsNot (Then (Token is_word) (Token not_word)))))
+      (Either (As kinds.NotIn (Then (Token not_word) (Token in_word))) (Either (As kinds.IsNot (Then (Token is_word) (Token not_word))) (As kinds.Is (Token is_word))))
 
   -- bor (cop bor)*
   unfoldable pub Comparison : Form

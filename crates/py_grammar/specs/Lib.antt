@@ -9,3 +9,5 @@ pub mod Statements
 pub mod Headers
 pub mod Weights
 pub mod Lines
+pub mod Firsts
+pub mod Reading

@@ -69,10 +69,14 @@ count_stars (t ∷ parts) = if is_star_pattern (kind_of t) then 1 + count_stars 
 abbrev pub has_one_star : List Tree → Bool
 has_one_star parts = nat_lt (count_stars parts) 2
 
--- the same of the kids of a sequence
+abbrev pub is_sequence : Kind → Bool
+is_sequence kinds.MatchSequence = true
+is_sequence kind = false
+
+-- the same of the kids, where this is one
 abbrev pub sequence_has_one_star : List Tree → Bool
 sequence_has_one_star [] = true
-sequence_has_one_star (t ∷ parts) = has_one_star (unpack t.kids)
+sequence_has_one_star (t ∷ parts) = if is_sequence (kind_of t) then has_one_star (unpack t.kids) else true
 
 -- round brackets hold nothing or several patterns, or one with a comma, which is a sequence; or one pattern alone
 abbrev pub pattern_in_parentheses : List Terminal → List Tree → List Tree
@@ -195,5 +199,4 @@ module _ (self : Entry → Form) where
   -- the patterns of a `case` line: a pattern, or several with commas, which is a sequence
   unfoldable pub OpenPatterns : Form
   OpenPatterns =
-      Either (As kinds.MatchSequence (Where has_one_star (Then StarPattern (CommaRest SequenceItem))))
-      (Either (self e.Pattern) (As kinds.MatchSequence (Where has_one_star (Then (self e.Pattern) (CommaRest SequenceItem)))))
+      Where sequence_has_one_star (Either (As kinds.MatchSequence (Then StarPattern (CommaRest SequenceItem))) (Tupled kinds.MatchSequence (self e.Pattern) SequenceItem))

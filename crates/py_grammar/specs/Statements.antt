@@ -72,10 +72,6 @@ module _ (self : Entry → Form) where
   unfoldable pub Value : Form
   Value = Either (Yield self) (Sx self)
 
-  -- sx | yield
-  unfoldable pub ExpressionStatement : Form
-  ExpressionStatement = As kinds.ExpressionStatement Value
-
   -- (targets '=')+ (yield | sx)
   unfoldable pub Assign : Form
   Assign = Made assigned (Where targets_before_last (Then (Sx self) (OneOrMore (Then (Token assign) Value))))
@@ -144,9 +140,10 @@ module _ (self : Entry → Form) where
       Either (Leaf lone_leaf lone_word)
       (Either Return (Either Raise (Either Declaration (Either Delete (Either Assert (Either Import ImportFrom))))))
 
-  -- statements that begin with an expression
+  -- yield | sx, and what is assigned
   unfoldable pub ValueStatement : Form
-  ValueStatement = Either ExpressionStatement (Either Assign (Either AugAssign AnnAssign))
+  ValueStatement =
+      Either (As kinds.ExpressionStatement (Yield self)) (Either (As kinds.ExpressionStatement (Sx self)) (Either Assign (Either AugAssign AnnAssign)))
 
   unfoldable pub Statement : Form
   Statement = Either KeywordStatement ValueStatement

@@ -145,12 +145,11 @@ abbrev pub caret : List ℕ
 caret = set_of (s.Caret ∷ [])
 abbrev pub ampersand : List ℕ
 ampersand = set_of (s.Ampersand ∷ [])
-abbrev pub plus : List ℕ
-plus = set_of (s.Plus ∷ [])
 abbrev pub minus : List ℕ
 minus = set_of (s.Minus ∷ [])
-abbrev pub tilde : List ℕ
-tilde = set_of (s.Tilde ∷ [])
+-- the signs before an operand
+abbrev pub sign : List ℕ
+sign = set_of (s.Plus ∷ s.Minus ∷ s.Tilde ∷ [])
 abbrev pub shift_operator : List ℕ
 shift_operator = set_of (s.LeftShift ∷ s.RightShift ∷ [])
 abbrev pub sum_operator : List ℕ
