@@ -11,3 +11,7 @@ pub mod Weights
 pub mod Lines
 pub mod Firsts
 pub mod Reading
+pub mod ReadingPatterns
+pub mod ReadingStatements
+pub mod ReadingHeaders
+pub mod ReadingLines

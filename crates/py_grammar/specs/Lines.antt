@@ -5,6 +5,7 @@ use Rattle.tree_nodes.specs.declared.kind.Kind.{Kind}
 use Rattle.tree_nodes.specs.declared.kind.Kind.TheVariants as kinds
 use Rattle.py_language.specs.Languages.{Then, Nothing, Either, Maybe}
 use Rattle.py_language.specs.Sets.{mem}
+use Rattle.py_language.specs.Nesting.{nesting_of}
 use Rattle.py_grammar.specs.declared.entry.Entry.{Entry}
 use Rattle.py_grammar.specs.declared.entry.Entry.TheVariants as e
 use Rattle.py_grammar.specs.declared.head.Head.{Head}
@@ -16,7 +17,7 @@ use Rattle.py_grammar.specs.Expressions.{Test, Or, Not, BitOr, Factor, Named}
 use Rattle.py_grammar.specs.Patterns.{Pattern}
 use Rattle.py_grammar.specs.Statements.{Statements}
 use Rattle.py_grammar.specs.Headers.{ForHeader, ExceptHeader, ExceptStarHeader, PlainWith, ParenthesizedWith, FunctionHeader, ClassHeader, MatchHeader, CaseHeader, DecoratorLine}
-use Rattle.py_grammar.specs.Weights.{nesting_of}
+use Rattle.py_grammar.specs.Weights.{weight}
 
 -- ---- phrases
 
@@ -33,10 +34,6 @@ FormOf self e.Pattern = Pattern self
 unfoldable pub PhraseWithin : ℕ → Entry → Form
 PhraseWithin zero entry = λ ts out. ⊥
 PhraseWithin (suc depth) entry = FormOf (PhraseWithin depth) entry
-
--- a phrase
-unfoldable pub Phrase : Entry → Form
-Phrase entry ts out = (depth : ℕ) × PhraseWithin depth entry ts out
 
 -- ---- lines
 
@@ -56,61 +53,82 @@ pub record IsHeaded (self : Entry → Form) (header : Form) (ts : List Terminal)
   pub body_is : Maybe (Statements self) back body
   pub tokens : ts ≡ front ++ mark ∷ back
 
--- a header with its `:` alone
-abbrev pub IsBare : Form → List Terminal → List Tree → List Tree → Type 0
-IsBare header ts nodes body = Then header (Token colon) ts nodes × (body ≡ [])
-
--- behind `async`
-abbrev pub Async : Form → Form
-Async a = Then (Token async_word) a
-
 -- the nesting of expressions and patterns is at most 200
 abbrev pub IsShallow : List Tree → List Tree → Type 0
-IsShallow nodes body = nesting_of (nodes ++ body) ≤ 200
+IsShallow nodes body = nesting_of weight (nodes ++ body) ≤ 200
 
--- a reading of a line by one row of the grammar, that is not nested too deep
-abbrev pub Fits : (List Terminal → List Tree → List Tree → Type 0) → List Terminal → List Tree → List Tree → Type 0
-Fits reading ts nodes body = reading ts nodes body × IsShallow nodes body
+-- the rows of the grammar by which a line may be read, over the forms of phrases: a header or decorator with its parts, and
+-- simple statements
+abbrev pub Row : Type 1
+Row = (Entry → Form) → List Terminal → List Tree → List Tree → Type 0
+
+-- a line is read by a row with phrases of some depth, and is not nested too deep
+abbrev pub Fits : Row → List Terminal → List Tree → List Tree → Type 0
+Fits reading ts nodes body = (depth : ℕ) × reading (PhraseWithin depth) ts nodes body × IsShallow nodes body
 
 -- no trees fit
-abbrev pub FitsNowhere : (List Terminal → List Tree → List Tree → Type 0) → List Terminal → Type 0
+abbrev pub FitsNowhere : Row → List Terminal → Type 0
 FitsNowhere reading ts = (nodes body : List Tree) → Fits reading ts nodes body → ⊥
 
-module _ (self : Entry → Form) where
-  -- `with` items: where all between `with` and `:` is items in brackets, that is the reading
-  abbrev pub WithReading : (Form → Form) → List Terminal → List Tree → List Tree → Type 0
-  WithReading behind ts nodes body =
-      Fits (IsHeaded self (behind (ParenthesizedWith self))) ts nodes body
-      ⊎ (Fits (IsHeaded self (behind (PlainWith self))) ts nodes body × FitsNowhere (IsHeaded self (behind (ParenthesizedWith self))) ts)
+-- a header, its `:`, and maybe simple statements
+abbrev pub headed : ((Entry → Form) → Form) → Row
+headed header self ts nodes body = IsHeaded self (header self) ts nodes body
 
-  -- simple statements; a line that fits the header of `match` or `case` is none
-  abbrev pub SimpleReading : List Terminal → List Tree → List Tree → Type 0
-  SimpleReading ts nodes body =
-      Fits (λ ts nodes body. Statements self ts body × (nodes ≡ [])) ts nodes body
-      × FitsNowhere (IsBare (MatchHeader self)) ts × FitsNowhere (IsHeaded self (CaseHeader self)) ts
+-- a header and its `:` alone
+abbrev pub bare : ((Entry → Form) → Form) → Row
+bare header self ts nodes body = Then (header self) (Token colon) ts nodes × (body ≡ [])
 
-  -- a line of each kind
-  unfoldable pub Reading : Head → List Terminal → List Tree → List Tree → Type 0
-  Reading heads.Simple ts nodes body = SimpleReading ts nodes body
-  Reading heads.Decorator ts nodes body = Fits (λ ts nodes body. DecoratorLine self ts nodes × (body ≡ [])) ts nodes body
-  Reading heads.If ts nodes body = Fits (IsHeaded self (Then (Token if_word) (Named self))) ts nodes body
-  Reading heads.Elif ts nodes body = Fits (IsHeaded self (Then (Token elif_word) (Named self))) ts nodes body
-  Reading heads.Else ts nodes body = Fits (IsHeaded self (Token else_word)) ts nodes body
-  Reading heads.While ts nodes body = Fits (IsHeaded self (Then (Token while_word) (Named self))) ts nodes body
-  Reading heads.For ts nodes body = Fits (IsHeaded self (ForHeader self)) ts nodes body
-  Reading heads.AsyncFor ts nodes body = Fits (IsHeaded self (Async (ForHeader self))) ts nodes body
-  Reading heads.Try ts nodes body = Fits (IsHeaded self (Token try_word)) ts nodes body
-  Reading heads.Except ts nodes body = Fits (IsHeaded self (ExceptHeader self)) ts nodes body
-  Reading heads.ExceptStar ts nodes body = Fits (IsHeaded self (ExceptStarHeader self)) ts nodes body
-  Reading heads.Finally ts nodes body = Fits (IsHeaded self (Token finally_word)) ts nodes body
-  Reading heads.With ts nodes body = WithReading (λ a. a) ts nodes body
-  Reading heads.AsyncWith ts nodes body = WithReading Async ts nodes body
-  Reading heads.FunctionDef ts nodes body = Fits (IsHeaded self (FunctionHeader self)) ts nodes body
-  Reading heads.AsyncFunctionDef ts nodes body = Fits (IsHeaded self (Async (FunctionHeader self))) ts nodes body
-  Reading heads.ClassDef ts nodes body = Fits (IsHeaded self (ClassHeader self)) ts nodes body
-  Reading heads.Match ts nodes body = Fits (IsBare (MatchHeader self)) ts nodes body
-  Reading heads.Case ts nodes body = Fits (IsHeaded self (CaseHeader self)) ts nodes body
+-- a decorator
+abbrev pub decorator : Row
+decorator self ts nodes body = DecoratorLine self ts nodes × (body ≡ [])
+
+-- simple statements alone
+abbrev pub simple : Row
+simple self ts nodes body = Statements self ts body × (nodes ≡ [])
+
+-- a token alone
+abbrev pub alone : List ℕ → (Entry → Form) → Form
+alone word self = Token word
+
+-- a token and an expression that may be a walrus
+abbrev pub with_test : List ℕ → (Entry → Form) → Form
+with_test word self = Then (Token word) (Named self)
+
+-- behind `async`
+abbrev pub async : ((Entry → Form) → Form) → (Entry → Form) → Form
+async header self = Then (Token async_word) (header self)
+
+-- `with` items: where all between `with` and `:` is items in brackets, that is the reading
+abbrev pub with_items : (((Entry → Form) → Form) → (Entry → Form) → Form) → List Terminal → List Tree → List Tree → Type 0
+with_items behind ts nodes body =
+    Fits (headed (behind ParenthesizedWith)) ts nodes body ⊎ (Fits (headed (behind PlainWith)) ts nodes body × FitsNowhere (headed (behind ParenthesizedWith)) ts)
+
+-- simple statements; a line that fits a header of `match` or `case` is none
+abbrev pub simple_statements : List Terminal → List Tree → List Tree → Type 0
+simple_statements ts nodes body = Fits simple ts nodes body × FitsNowhere (bare MatchHeader) ts × FitsNowhere (headed CaseHeader) ts
+
+-- a line of each kind
+unfoldable pub Reads : Head → List Terminal → List Tree → List Tree → Type 0
+Reads heads.Simple = simple_statements
+Reads heads.Decorator = Fits decorator
+Reads heads.If = Fits (headed (with_test if_word))
+Reads heads.Elif = Fits (headed (with_test elif_word))
+Reads heads.Else = Fits (headed (alone else_word))
+Reads heads.While = Fits (headed (with_test while_word))
+Reads heads.For = Fits (headed ForHeader)
+Reads heads.AsyncFor = Fits (headed (async ForHeader))
+Reads heads.Try = Fits (headed (alone try_word))
+Reads heads.Except = Fits (headed ExceptHeader)
+Reads heads.ExceptStar = Fits (headed ExceptStarHeader)
+Reads heads.Finally = Fits (headed (alone finally_word))
+Reads heads.With = with_items (λ header. header)
+Reads heads.AsyncWith = with_items async
+Reads heads.FunctionDef = Fits (headed FunctionHeader)
+Reads heads.AsyncFunctionDef = Fits (headed (async FunctionHeader))
+Reads heads.ClassDef = Fits (headed ClassHeader)
+Reads heads.Match = Fits (bare MatchHeader)
+Reads heads.Case = Fits (headed CaseHeader)
 
 -- the line spells this
 abbrev pub IsLine : List Terminal → LineForm → Type 0
-IsLine ts line = Reading Phrase line.head ts line.nodes line.body
+IsLine ts line = Reads line.head ts line.nodes line.body

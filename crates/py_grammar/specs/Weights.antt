@@ -1,7 +1,6 @@
 -- Which nodes count in the nesting of expressions and patterns: those of expressions, targets and patterns. Arguments,
 -- parameters, slices, items, clauses, stars and fields do not, nor does a pattern that is one expression.
-use Rattle.std.specs.Prelude.{ℕ, ◌+◌, max, List, [], ◌∷◌}
-use Rattle.tree_nodes.specs.Trees.{Tree, Trees, none, tree, pack}
+use Rattle.std.specs.Prelude.{ℕ}
 use Rattle.tree_nodes.specs.declared.kind.Kind.{Kind}
 use Rattle.tree_nodes.specs.declared.kind.Kind.TheVariants as kinds
 
@@ -60,11 +59,3 @@ weight kinds.MatchSequence = 1
 weight kinds.MatchMapping = 1
 weight kinds.MatchClass = 1
 weight kind = 0
-
--- the greatest nesting of some trees: a node's is its weight and the greatest nesting of its kids
-abbrev pub nesting : Trees → ℕ
-nesting none = 0
-nesting (tree node kids rest) = max (weight node.kind + nesting kids) (nesting rest)
-
-abbrev pub nesting_of : List Tree → ℕ
-nesting_of ts = nesting (pack ts)
