@@ -1,0 +1,14 @@
+//! Blocks: from the logical lines of a file to its one syntax tree, or the first line that stands against a rule.
+#![tactic(auto)]
+
+mod fault;
+mod heads;
+mod line;
+mod row;
+mod rules;
+mod standing;
+
+pub use fault::{BlockCause, BlockFault};
+pub use line::Line;
+pub use row::BlockRow;
+pub use rules::first_fault;
