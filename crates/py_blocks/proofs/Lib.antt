@@ -1,2 +1,5 @@
+pub mod BuildingLaws
+pub mod GatheredLaws
 pub mod LookingLaws
+pub mod StackLaws
 pub mod StandingLaws

@@ -2,6 +2,8 @@
 use Rattle.std.specs.Prelude.{Bool, true, false, ◌&&◌, ◌||◌, Option, Some, None}
 use Rattle.py_grammar.specs.declared.head.Head.{Head}
 use Rattle.py_grammar.specs.declared.head.Head.TheVariants as heads
+use Rattle.tree_nodes.specs.declared.kind.Kind.{Kind}
+use Rattle.tree_nodes.specs.declared.kind.Kind.TheVariants as kinds
 
 -- the header of a statement or of a clause
 abbrev pub is_header : Head → Bool
@@ -77,3 +79,44 @@ has_opener heads.Except elder behind = is_opened_try elder || is_except elder
 has_opener heads.ExceptStar elder behind = is_opened_try elder || is_except_star elder
 has_opener heads.Finally elder behind = is_opened_try elder || is_except elder || is_except_star elder || (is_else elder && (is_except behind || is_except_star behind))
 has_opener head elder behind = true
+
+-- ---- what a line makes in the tree
+
+-- a clause of the statement whose header stands before it at its level
+abbrev pub is_clause : Head → Bool
+is_clause heads.Elif = true
+is_clause heads.Else = true
+is_clause heads.Except = true
+is_clause heads.ExceptStar = true
+is_clause heads.Finally = true
+is_clause heads.Case = true
+is_clause head = false
+
+-- what has decorators and a docstring
+abbrev pub is_definition : Head → Bool
+is_definition heads.FunctionDef = true
+is_definition heads.AsyncFunctionDef = true
+is_definition heads.ClassDef = true
+is_definition head = false
+
+-- the kind of node that a header makes
+abbrev pub kind_of : Head → Kind
+kind_of heads.If = kinds.If
+kind_of heads.Elif = kinds.Elif
+kind_of heads.Else = kinds.Else
+kind_of heads.While = kinds.While
+kind_of heads.For = kinds.For
+kind_of heads.AsyncFor = kinds.AsyncFor
+kind_of heads.Try = kinds.Try
+kind_of heads.Except = kinds.ExceptHandler
+kind_of heads.ExceptStar = kinds.ExceptStarHandler
+kind_of heads.Finally = kinds.Finally
+kind_of heads.With = kinds.With
+kind_of heads.AsyncWith = kinds.AsyncWith
+kind_of heads.FunctionDef = kinds.FunctionDef
+kind_of heads.AsyncFunctionDef = kinds.AsyncFunctionDef
+kind_of heads.ClassDef = kinds.ClassDef
+kind_of heads.Match = kinds.Match
+kind_of heads.Case = kinds.Case
+kind_of heads.Decorator = kinds.Decorator
+kind_of heads.Simple = kinds.Pass

@@ -4,6 +4,7 @@ ghost use Rattle.py_grammar.specs.declared.head.Head.TheVariants as heads;
 ghost use Rattle.py_blocks.specs.Heads as spec;
 
 use py_grammar::Head;
+use tree_nodes::Kind;
 
 pub fn is_header(head: Head) -> bool
     ensures { result ≡ spec.is_header head }
@@ -110,4 +111,49 @@ fn ends_try(elder: Option<Head>, behind: Option<Head>) -> bool
     ensures { result ≡ spec.has_opener heads.Finally elder behind }
 {
     is_opened_try(elder) || is_any_except(elder) || (is_else(elder) && is_any_except(behind))
+}
+
+pub fn is_clause(head: Head) -> bool
+    ensures { result ≡ spec.is_clause head }
+{
+    matches!(
+        head,
+        Head::Elif | Head::Else | Head::Except | Head::ExceptStar | Head::Finally | Head::Case
+    )
+}
+
+pub fn is_definition(head: Head) -> bool
+    ensures { result ≡ spec.is_definition head }
+{
+    matches!(
+        head,
+        Head::FunctionDef | Head::AsyncFunctionDef | Head::ClassDef
+    )
+}
+
+/// The kind of node that a header makes.
+pub fn kind_of(head: Head) -> Kind
+    ensures { result ≡ spec.kind_of head }
+{
+    match head {
+        Head::If => Kind::If,
+        Head::Elif => Kind::Elif,
+        Head::Else => Kind::Else,
+        Head::While => Kind::While,
+        Head::For => Kind::For,
+        Head::AsyncFor => Kind::AsyncFor,
+        Head::Try => Kind::Try,
+        Head::Except => Kind::ExceptHandler,
+        Head::ExceptStar => Kind::ExceptStarHandler,
+        Head::Finally => Kind::Finally,
+        Head::With => Kind::With,
+        Head::AsyncWith => Kind::AsyncWith,
+        Head::FunctionDef => Kind::FunctionDef,
+        Head::AsyncFunctionDef => Kind::AsyncFunctionDef,
+        Head::ClassDef => Kind::ClassDef,
+        Head::Match => Kind::Match,
+        Head::Case => Kind::Case,
+        Head::Decorator => Kind::Decorator,
+        Head::Simple => Kind::Pass,
+    }
 }

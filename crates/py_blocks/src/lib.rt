@@ -1,12 +1,15 @@
 //! Blocks: from the logical lines of a file to its one syntax tree, or the first line that stands against a rule.
 #![tactic(auto)]
 
+mod building;
 mod fault;
 mod heads;
 mod line;
+mod parts;
 mod row;
 mod rules;
 mod standing;
+mod waiting;
 
 pub use fault::{BlockCause, BlockFault};
 pub use line::Line;
