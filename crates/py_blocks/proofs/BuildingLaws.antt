@@ -2,14 +2,15 @@
 use Rattle.std.proofs.Common.{◌≡◌, ℕ, zero, suc, ◌+◌, ◌-◌, ◌<◌, ◌≤◌, List, [], ◌∷◌, ◌++◌, Bool, true, false, if◌then◌else◌, length, get_or, map, Option, Some, None, refl, sym, ap, subst, ◌∙◌, arith}
 use Rattle.std.specs.Prelude.{All, IfSome, option_map, max, replicate}
 use Rattle.py_blocks.specs.Stack.{first_or, others, deepened, joined, taken}
-use Rattle.std.proofs.lemmas.List.{map-append, length-map}
+use Rattle.std.proofs.lemmas.List.{map-append, length-map, length-append}
 use Rattle.std.proofs.lemmas.List.Elements.{All-cons, All-append, All-tail, All-weaker, All-nil, All-replicate}
-use Rattle.tree_nodes.specs.Trees.{Tree}
+use Rattle.tree_nodes.specs.Trees.{Tree, pack}
+use Rattle.tree_nodes.specs.declared.kind.Kind.TheVariants as kinds
 use Rattle.tree_nodes.specs.Rows.{Row as Built, tree_of}
 use Rattle.py_blocks.specs.Heads.{is_header, is_clause, is_definition}
 use Rattle.py_blocks.specs.Rows.{Row, map_row}
 use Rattle.py_blocks.specs.Statements.{Level, nothing, decorated, all_of, documented, either, suite, parts, end_of, headed, with_simple, with_clause, with_statement, with_line}
-use Rattle.py_blocks.specs.Building.{map_level, IsMade, IsHeld, Keeps, IsNode, MakesClause, MakesStatement, Makes, Takes, trees_in}
+use Rattle.py_blocks.specs.Building.{map_level, IsMade, IsHeld, Keeps, IsNode, MakesClause, MakesStatement, Makes, Takes, IsModule, trees_in}
 
 -- ---- what holds of both
 
@@ -68,7 +69,7 @@ module _ (count : ℕ) where
       let d = documented-held (either row.docstring block.docstring) (row.body ++ all_of block) (either-held row.docstring block.docstring h.docstring k.docstring) all in
       All-append (λ n. n < count) row.nodes (suite row block) h.nodes (if-held (is_definition row.head) (documented (either row.docstring block.docstring) (row.body ++ all_of block)) (row.body ++ all_of block) d all)
 
-  some-more : (more : ℕ) → count ≤ more → (d : Option ℕ) → IfSome d (λ n. n < count) → IfSome d (λ n. n < more)
+  pub some-more : (more : ℕ) → count ≤ more → (d : Option ℕ) → IfSome d (λ n. n < count) → IfSome d (λ n. n < more)
   some-more more l None h = tt
   some-more more l (Some d) h = omega arith
 
@@ -89,7 +90,7 @@ module _ (old new : List Built) (keeps : Keeps old new) where
       let others = map-kept xs (All-tail (λ n. n < length old) x xs h) in
       rw (first, others) refl
 
-  option-kept : (d : Option ℕ) → IfSome d (λ n. n < length old) → option_map (tree_of new) d ≡ option_map (tree_of old) d
+  pub option-kept : (d : Option ℕ) → IfSome d (λ n. n < length old) → option_map (tree_of new) d ≡ option_map (tree_of old) d
   option-kept None h = refl
   option-kept (Some d) h = ap (λ (t : Tree). Some t) (keeps.same d h)
 
@@ -135,7 +136,7 @@ clause-makes old new ds raw kids block behind made k e f g m =
     let clauses : map (tree_of new) behind.clauses ≡ map (tree_of old) behind.clauses = map-kept old new keeps behind.clauses k.clauses in
     let statements : map (tree_of new) behind.statements ≡ map (tree_of old) behind.statements = map-kept old new keeps behind.statements k.statements in
     let node : tree_of new m.node ≡ headed (map_row (tree_of old) row) (end_of row block) (parts (map_row (tree_of old) row) (map_level (tree_of old) block)) =
-      m.is_node.tree ∙ ap (headed (map_row (tree_of old) row) (end_of row block)) (ap (map (tree_of old)) g ∙ map-parts (tree_of old) row block) in
+    m.is_node.tree ∙ ap (headed (map_row (tree_of old) row) (end_of row block)) (ap (map (tree_of old)) g ∙ map-parts (tree_of old) row block) in
     subst (λ (l : Level ℕ). Makes old new row block behind l) (sym m.made_is) (record {
       keeps = keeps;
       held = record { docstring = tt; clauses = All-cons (λ n. n < length new) m.node behind.clauses m.is_node.number later.clauses; statements = later.statements };
@@ -151,9 +152,9 @@ statement-makes old new ds raw kids block behind made k e f g m =
     let later = held-more (length old) (length new) keeps.more behind k in
     let statements : map (tree_of new) behind.statements ≡ map (tree_of old) behind.statements = map-kept old new keeps behind.statements k.statements in
     let kids_are : map (tree_of old) (kids ++ behind.clauses) ≡ parts (map_row (tree_of old) row) (map_level (tree_of old) block) ++ map (tree_of old) behind.clauses =
-      map-append (tree_of old) kids behind.clauses ∙ ap (λ (ts : List Tree). ts ++ map (tree_of old) behind.clauses) (ap (map (tree_of old)) g ∙ map-parts (tree_of old) row block) in
+    map-append (tree_of old) kids behind.clauses ∙ ap (λ (ts : List Tree). ts ++ map (tree_of old) behind.clauses) (ap (map (tree_of old)) g ∙ map-parts (tree_of old) row block) in
     let node : tree_of new m.node ≡ headed (map_row (tree_of old) row) (max (end_of row block) behind.reach) (parts (map_row (tree_of old) row) (map_level (tree_of old) block) ++ map (tree_of old) behind.clauses) =
-      m.is_node.tree ∙ ap (headed (map_row (tree_of old) row) (max (end_of row block) behind.reach)) kids_are in
+    m.is_node.tree ∙ ap (headed (map_row (tree_of old) row) (max (end_of row block) behind.reach)) kids_are in
     subst (λ (l : Level ℕ). Makes old new row block behind l) (sym m.made_is) (record {
       keeps = keeps;
       held = record { docstring = tt; clauses = All-nil (λ n. n < length new); statements = All-cons (λ n. n < length new) m.node behind.statements m.is_node.number later.statements };
@@ -220,3 +221,18 @@ takes old new row levels now block behind made rest last h e1 e2 e3 e4 m e5 =
       held = All-cons (IsHeld (length new)) made last m.held (held-more-all n (length new) m.keeps.more last last_held);
       trees = rw (m.trees, kept, last_trees, block_tree, behind_tree) refl;
     })
+
+-- the kids of the root
+pub module-held : (n : ℕ) (level : Level ℕ) → IsHeld n level → All (λ k. k < n) (documented level.docstring (all_of level))
+module-held n level h = documented-held n level.docstring (all_of level) h.docstring (all_of-held n level h)
+
+pub module-made : (old new : List Built) (level : Level ℕ) (root end_line : ℕ) (kids : List ℕ) → root < length new → end_line ≡ max 1 level.last → kids ≡ documented level.docstring (all_of level)
+    → tree_of new root ≡ record { node = record { kind = kinds.Module; pos = record { line = 1; col = 0 }; end_line = end_line; name = None }; kids = pack (map (tree_of old) kids) } → IsModule old new level root
+module-made old new level root end_line kids l e f t =
+    let a : map (tree_of old) kids ≡ documented (option_map (tree_of old) level.docstring) (all_of (map_level (tree_of old) level)) =
+    ap (map (tree_of old)) f ∙ map-documented (tree_of old) level.docstring (all_of level) ∙ ap (documented (option_map (tree_of old) level.docstring)) (map-all_of (tree_of old) level) in
+    record { number = l; tree = t ∙ rw (a, e) refl }
+
+-- the number of a row that was added
+pub number-new : (old new : List Built) (row : Built) (n : ℕ) → n ≡ length old → new ≡ old ++ row ∷ [] → n < length new
+number-new old new row n e f = let g : length new ≡ length old + 1 = ap length f ∙ length-append old (row ∷ []) in omega arith

@@ -20,7 +20,7 @@ pub gathered-next : (rows : List BlockRow) (place : ℕ) (d : BlockRow) → plac
     → gathered_to (suc place) rows ≡ (if is_decorator (get_or rows place d).head then gathered_to place rows ++ (get_or rows place d).nodes.now else [])
 gathered-next rows place d l =
     let e : reverse (take (suc place) rows) ≡ get_or rows place d ∷ reverse (take place rows) =
-      ap reverse (take-suc rows place d l) ∙ reverse-append (take place rows) (get_or rows place d ∷ []) in
+    ap reverse (take-suc rows place d l) ∙ reverse-append (take place rows) (get_or rows place d ∷ []) in
     ap (λ (rs : List BlockRow). gathered (map row_of rs)) e
 
 -- one more from the back

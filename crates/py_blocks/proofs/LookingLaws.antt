@@ -1,5 +1,5 @@
 -- The search for the first fault goes on line by line.
-use Rattle.std.proofs.Common.{◌≡◌, ℕ, ◌+◌, ◌-◌, ◌≤◌, List, [], ◌∷◌, Bool, length, get_or, take, drop, Option, Some, None, refl, sym, ap, subst, ◌∙◌, arith}
+use Rattle.std.proofs.Common.{◌≡◌, ℕ, ◌+◌, ◌-◌, ◌<◌, ◌≤◌, List, [], ◌∷◌, Bool, length, get_or, take, drop, Option, Some, None, refl, sym, ap, subst, ◌∙◌, arith}
 use Rattle.std.proofs.Math.Seq.{take-length}
 use Rattle.py_grammar.specs.declared.head.Head.{Head}
 use Rattle.py_blocks.specs.declared.line.Line.{Line}
@@ -31,6 +31,10 @@ module _ (is_whole : Bool) (lines : List Line) (place : ℕ) (previous : Option 
       let here : cause_at is_whole (around line.level h.before) line later ≡ Some cause = sym (cause-is line later a h e) ∙ ap (cause_at is_whole a line) (sym (behind-first line later)) ∙ f in
       let all : or_later (cause_at is_whole (around line.level h.before) line later) (length h.before) (fault_behind is_whole (line ∷ h.before) later) ≡ fault_behind is_whole [] lines = h.rest_is in
       rw h.place_is (rw here at all)
+
+  -- the place is one of a line
+  pub within : (rest : List Line) → IsLooking is_whole lines place previous standing rest → 1 ≤ length rest → place < length lines
+  within rest h l = omega (arith, h.long)
 
   -- no cause was found at this line
   pub passed : (rest : List Line) (d : Line) (a : Around) (new mid : List Standing) → IsLooking is_whole lines place previous standing rest → 1 ≤ length rest

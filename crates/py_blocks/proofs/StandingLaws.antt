@@ -31,9 +31,10 @@ left-below : (level m : ℕ) (s : List Standing) → level < m → left level (b
 left-below level m [] l = refl
 left-below level m (t ∷ s) l =
     elim (compared m t.level) [
-      lower h e1 e2 e3 e4 ↦ let f : nat_lt level t.level ≡ true = grind (arith, nat_tests) in rw (e1, f) (left-below level m s l)
-    | same h e1 e2 e3 e4 ↦ let f : nat_lt level t.level ≡ true = grind (arith, nat_tests) in rw (e1, e4, f) refl
-    | higher h e1 e2 e3 e4 ↦ rw (e1, e4) refl ]
+      | lower h e1 e2 e3 e4 ↦ let f : nat_lt level t.level ≡ true = grind (arith, nat_tests) in rw (e1, f) (left-below level m s l)
+      | same h e1 e2 e3 e4 ↦ let f : nat_lt level t.level ≡ true = grind (arith, nat_tests) in rw (e1, e4, f) refl
+      | higher h e1 e2 e3 e4 ↦ rw (e1, e4) refl
+    ]
 
 -- what stands of a level, and below it
 record Stands (level : ℕ) (before : List Line) : Type 0 where
@@ -56,16 +57,17 @@ stands [] level = record { elder = refl; behind = refl; under_it = refl }
 stands (line ∷ before) level =
     let s = standing_of before in
     elim (compared level line.level) [
-      lower h e1 e2 e3 e4 ↦
-        let e = left-below level line.level s h in
-        let others = stands before level in
-        record {
-          elder = rw (e1, e2, e) others.elder;
-          behind = rw (e1, e2, e) others.behind;
-          under_it = rw (e1, e2, e) others.under_it;
-        }
-    | same h e1 e2 e3 e4 ↦ subst (λ (k : ℕ). Stands k (line ∷ before)) (sym h) (stands-same line before (stands before line.level))
-    | higher h e1 e2 e3 e4 ↦ record { elder = rw (e1, e2, e4) refl; behind = rw (e1, e2, e4) refl; under_it = rw (e1, e2, e4) refl } ]
+      | lower h e1 e2 e3 e4 ↦
+          let e = left-below level line.level s h in
+          let others = stands before level in
+          record {
+            elder = rw (e1, e2, e) others.elder;
+            behind = rw (e1, e2, e) others.behind;
+            under_it = rw (e1, e2, e) others.under_it;
+          }
+      | same h e1 e2 e3 e4 ↦ subst (λ (k : ℕ). Stands k (line ∷ before)) (sym h) (stands-same line before (stands before line.level))
+      | higher h e1 e2 e3 e4 ↦ record { elder = rw (e1, e2, e4) refl; behind = rw (e1, e2, e4) refl; under_it = rw (e1, e2, e4) refl }
+    ]
 
 -- a `try` among those that stand below a level
 tried : (before : List Line) (level limit : ℕ) → level < limit → tries level (below limit (left limit (standing_of before))) ≡ leaves_try level limit before
@@ -73,26 +75,29 @@ tried [] level limit l = refl
 tried (line ∷ before) level limit l =
     let s = standing_of before in
     elim (compared limit line.level) [
-      lower h e1 e2 e3 e4 ↦
-        let f : nat_lt level line.level ≡ true = grind (arith, nat_tests) in
-        rw (e1, e2, f, left-below limit line.level s h) (tried before level limit l)
-    | same h e1 e2 e3 e4 ↦
-        let f : nat_lt level line.level ≡ true = grind (arith, nat_tests) in
-        rw (e1, e2, e4, f) (subst (λ (k : ℕ). tries level (below line.level (left line.level s)) ≡ leaves_try level k before) (sym h) (tried before level line.level (omega arith)))
-    | higher h e1 e2 e3 e4 ↦
-        elim (compared level line.level) [
-          lower k f1 f2 f3 f4 ↦ rw (e1, e2, e4, f1) (ap (λ (b : Bool). is_try line.head || b) (tried before level line.level k))
-        | same k f1 f2 f3 f4 ↦ rw (e1, e4, f1) refl
-        | higher k f1 f2 f3 f4 ↦ rw (e1, e4, f1) refl ] ]
+      | lower h e1 e2 e3 e4 ↦
+          let f : nat_lt level line.level ≡ true = grind (arith, nat_tests) in
+          rw (e1, e2, f, left-below limit line.level s h) (tried before level limit l)
+      | same h e1 e2 e3 e4 ↦
+          let f : nat_lt level line.level ≡ true = grind (arith, nat_tests) in
+          rw (e1, e2, e4, f) (subst (λ (k : ℕ). tries level (below line.level (left line.level s)) ≡ leaves_try level k before) (sym h) (tried before level line.level (omega arith)))
+      | higher h e1 e2 e3 e4 ↦
+          elim (compared level line.level) [
+            | lower k f1 f2 f3 f4 ↦ rw (e1, e2, e4, f1) (ap (λ (b : Bool). is_try line.head || b) (tried before level line.level k))
+            | same k f1 f2 f3 f4 ↦ rw (e1, e4, f1) refl
+            | higher k f1 f2 f3 f4 ↦ rw (e1, e4, f1) refl
+          ]
+    ]
 
 tried-before : (before : List Line) (level : ℕ) → tries level (standing_of before) ≡ leaves_try level (suc (level_of (nearest before))) before
 tried-before [] level = refl
 tried-before (line ∷ before) level =
     let up : nat_lt line.level (suc line.level) ≡ true = grind (arith, nat_tests) in
     elim (compared level line.level) [
-      lower h e1 e2 e3 e4 ↦ rw (e1, up) (ap (λ (b : Bool). is_try line.head || b) (tried before level line.level h))
-    | same h e1 e2 e3 e4 ↦ rw e1 refl
-    | higher h e1 e2 e3 e4 ↦ rw e1 refl ]
+      | lower h e1 e2 e3 e4 ↦ rw (e1, up) (ap (λ (b : Bool). is_try line.head || b) (tried before level line.level h))
+      | same h e1 e2 e3 e4 ↦ rw e1 refl
+      | higher h e1 e2 e3 e4 ↦ rw e1 refl
+    ]
 
 pub surroundings-are : (before : List Line) (level : ℕ) → surroundings (nearest before) level (standing_of before) ≡ around level before
 surroundings-are before level =

@@ -5,7 +5,7 @@ use Rattle.tree_nodes.specs.Rows.{Row as Built, tree_of}
 use Rattle.py_blocks.specs.declared.waiting.Waiting.{Waiting}
 use Rattle.py_blocks.specs.declared.row.BlockRow.{BlockRow}
 use Rattle.py_blocks.specs.Rows.{Row, row_of, map_row}
-use Rattle.py_blocks.specs.Statements.{Level, nothing, end_of, headed, with_line}
+use Rattle.py_blocks.specs.Statements.{Level, nothing, end_of, headed, with_line, module_over}
 use Rattle.py_blocks.specs.Stack.{taken}
 
 -- what waits at a level, over numbers; it is kept from the last one back
@@ -53,7 +53,11 @@ pub record MakesClause (old new : List Built) (row : Row ℕ) (kids : List ℕ) 
   pub node : ℕ
   pub is_node : IsNode old new row (end_of row block) kids node
   pub made_is : made ≡ record {
-    docstring = None; clauses = node ∷ behind.clauses; reach = max (end_of row block) behind.reach; statements = behind.statements; last = max (end_of row block) behind.last;
+    docstring = None;
+    clauses = node ∷ behind.clauses;
+    reach = max (end_of row block) behind.reach;
+    statements = behind.statements;
+    last = max (end_of row block) behind.last;
   }
 
 -- a statement's node was made over these kids, and stands before the statements behind
@@ -61,7 +65,11 @@ pub record MakesStatement (old new : List Built) (row : Row ℕ) (kids : List �
   pub node : ℕ
   pub is_node : IsNode old new row (max (end_of row block) behind.reach) (kids ++ behind.clauses) node
   pub made_is : made ≡ record {
-    docstring = None; clauses = []; reach = 0; statements = node ∷ behind.statements; last = max (end_of row block) behind.last;
+    docstring = None;
+    clauses = [];
+    reach = 0;
+    statements = node ∷ behind.statements;
+    last = max (end_of row block) behind.last;
   }
 
 -- a level was made of a row, its block and what is behind
@@ -75,3 +83,8 @@ pub record Takes (old new : List Built) (row : Row ℕ) (levels_old levels_new :
   pub keeps : Keeps old new
   pub held : All (IsHeld (length new)) levels_new
   pub trees : trees_in new levels_new ≡ taken nothing with_line (map_row (tree_of old) row) (trees_in old levels_old)
+
+-- a row was added for the root
+pub record IsModule (old new : List Built) (level : Level ℕ) (root : ℕ) : Type 0 where
+  pub number : root < length new
+  pub tree : tree_of new root ≡ module_over (map_level (tree_of old) level)

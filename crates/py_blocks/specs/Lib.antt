@@ -7,3 +7,4 @@ pub mod Spelling
 pub mod Stack
 pub mod Standing
 pub mod Statements
+pub mod Taking

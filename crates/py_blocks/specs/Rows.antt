@@ -22,15 +22,27 @@ pub record Row (X : Type 0) : Type 0 where
 -- a row of the code, over the numbers of its trees
 abbrev pub row_of : BlockRow → Row ℕ
 row_of row = record {
-  head = row.head; level = row.level; pos = row.pos; end_line = row.end_line; name = option_copied row.name;
-  nodes = row.nodes.now; body = row.body.now; docstring = row.docstring;
+  head = row.head;
+  level = row.level;
+  pos = row.pos;
+  end_line = row.end_line;
+  name = option_copied row.name;
+  nodes = row.nodes.now;
+  body = row.body.now;
+  docstring = row.docstring;
 }
 
 -- a row over what a function gives for each
 abbrev pub map_row : {X Y : Type 0} → (X → Y) → Row X → Row Y
 map_row f row = record {
-  head = row.head; level = row.level; pos = row.pos; end_line = row.end_line; name = row.name;
-  nodes = map f row.nodes; body = map f row.body; docstring = option_map f row.docstring;
+  head = row.head;
+  level = row.level;
+  pos = row.pos;
+  end_line = row.end_line;
+  name = row.name;
+  nodes = map f row.nodes;
+  body = map f row.body;
+  docstring = option_map f row.docstring;
 }
 
 -- there is nothing

@@ -5,13 +5,16 @@ mod building;
 mod fault;
 mod heads;
 mod line;
+mod parse;
 mod parts;
 mod row;
 mod rules;
 mod standing;
+mod taking;
 mod waiting;
 
-pub use fault::{BlockCause, BlockFault};
+pub use fault::{BlockCause, BlockError, BlockFault};
 pub use line::Line;
+pub use parse::{line_of, parse_rows};
 pub use row::BlockRow;
 pub use rules::first_fault;

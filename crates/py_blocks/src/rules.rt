@@ -1,5 +1,5 @@
 // The first line that stands against a rule of blocks.
-ghost use Rattle.std.specs.Prelude.{◌≡◌, ◌&&◌, ◌||◌, not, nat_lt, nat_eq, IfOk};
+ghost use Rattle.std.specs.Prelude.{◌≡◌, ◌&&◌, ◌||◌, not, nat_lt, nat_eq, ◌<◌, length, IfOk, IfSome};
 ghost use Rattle.std.specs.List.{list_all};
 ghost use Rattle.py_blocks.specs.Heads as heads;
 ghost use Rattle.py_blocks.specs.Rules as spec;
@@ -20,7 +20,8 @@ pub fn first_fault(
     lines: &[Line],
     is_whole: bool,
 ) -> Result<Option<BlockFault>, Memory>
-    ensures { IfOk result (λ fault. fault ≡ spec.first_fault is_whole lines.now) }
+    ensures fault { IfOk result (λ fault. fault ≡ spec.first_fault is_whole lines.now) }
+    ensures place { IfOk result (λ fault. IfSome fault (λ fault. fault.place < length lines.now)) }
 {
     let mut standing = Vec::new(alloc);
     let mut previous = None;

@@ -1,12 +1,15 @@
 use Rattle.std.proofs.Common.{◌≡◌, ◌∙◌, sym}
-use Rattle.py_blocks.proofs.LookingLaws.{found, passed}
+use Rattle.py_blocks.proofs.LookingLaws.{found, passed, within}
 use Rattle.py_blocks.proofs.rules.first_fault.Goals as goal
 
-pub returns-in-Some : goal.returns-in-Some
-returns-in-Some c =
+pub returns-in-Some-clause-fault : goal.returns-in-Some-clause-fault
+returns-in-Some-clause-fault c =
     found _ _ _ _ _ c.loop-rest.rest.now _ c.leave-around.result c.in-Some.cause c.loop-rest.invariant c.in-len1-up.len_at_least c.leave-around.ensures.around (sym c.cause_at.ensures ∙ c.in-Some.is)
 
 pub loop-rest-preserved : goal.loop-rest-preserved
 loop-rest-preserved c =
     passed _ _ _ _ _ c.loop-rest.rest.now _ c.leave-around.result _ _ c.loop-rest.invariant c.in-len1-up.len_at_least c.leave-around.ensures.around
     (sym c.cause_at.ensures ∙ c.in_default-cause_at.is) c.in_ok-put.ensures c.leave-around.ensures.below
+
+pub returns-in-Some-clause-place : goal.returns-in-Some-clause-place
+returns-in-Some-clause-place c = within _ _ _ _ _ c.loop-rest.rest.now c.loop-rest.invariant c.in-len1-up.len_at_least
