@@ -36,6 +36,11 @@ module _ (is_whole : Bool) (lines : List Line) (place : ℕ) (previous : Option 
   pub within : (rest : List Line) → IsLooking is_whole lines place previous standing rest → 1 ≤ length rest → place < length lines
   within rest h l = omega (arith, h.long)
 
+  -- no line is left
+  pub none-left : (rest : List Line) → IsLooking is_whole lines place previous standing rest → length rest < 1 → first_fault is_whole lines ≡ None
+  none-left [] h l = sym h.rest_is
+  none-left (line ∷ rest) h l = absurd (omega arith)
+
   -- no cause was found at this line
   pub passed : (rest : List Line) (d : Line) (a : Around) (new mid : List Standing) → IsLooking is_whole lines place previous standing rest → 1 ≤ length rest
       → a ≡ surroundings previous (get_or rest 0 d).level standing → cause_at is_whole a (get_or rest 0 d) (take (length rest - 1) (drop 1 rest)) ≡ None

@@ -136,3 +136,11 @@ every-fault-clause rows (Err Memory) h k line cause f = tt
 every-fault-clause rows (Err (At at other)) h k line cause f =
     let same = one-fault k.fault f.fault (first_fault true (map line_of rows)) k.is_found (is-found true (map line_of rows) f.fault f.is_first) in
     (k.line_is ∙ ap (λ (x : BlockFault). line_at rows x.place) same ∙ sym f.line_is, k.cause_is ∙ ap (λ (x : BlockFault). x.cause) same ∙ sym f.cause_is)
+
+-- ---- one tree, exactly where no fault stands
+
+pub one-tree : (rows : List (Row Tree)) (a b : Tree) → Spells rows a → Spells rows b → a ≡ b
+one-tree rows a b h k = sym (tree-spelled rows a h) ∙ tree-spelled rows b k
+
+pub some-tree : (rows : List (Row Tree)) → StepByOne 0 rows → AreRight true (map line_of rows) → (tree : Tree) × Spells rows tree
+some-tree rows s h = (tree_by rows, spells rows (tree_by rows) s (record { none_found = none-found true (map line_of rows) h; tree_is = refl }))

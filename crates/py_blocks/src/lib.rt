@@ -4,6 +4,7 @@
 mod building;
 mod fault;
 mod heads;
+mod laws;
 mod line;
 mod parse;
 mod parts;
@@ -14,6 +15,7 @@ mod taking;
 mod waiting;
 
 pub use fault::{BlockCause, BlockError, BlockFault};
+pub use laws::{one_tree, some_tree};
 pub use line::Line;
 pub use parse::{line_of, parse_rows};
 pub use row::BlockRow;

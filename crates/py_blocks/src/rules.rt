@@ -1,5 +1,6 @@
 // The first line that stands against a rule of blocks.
-ghost use Rattle.std.specs.Prelude.{◌≡◌, ◌&&◌, ◌||◌, not, nat_lt, nat_eq, ◌<◌, length, IfOk, IfSome};
+ghost use Rattle.std.specs.Prelude.{◌≡◌, ◌&&◌, ◌||◌, not, nat_lt, nat_eq, ◌<◌, length, IfOk, IfSome, MatchOption};
+ghost use Rattle.py_blocks.specs.Rules.{AreRight, IsFirstFault};
 ghost use Rattle.std.specs.List.{list_all};
 ghost use Rattle.py_blocks.specs.Heads as heads;
 ghost use Rattle.py_blocks.specs.Rules as spec;
@@ -21,6 +22,7 @@ pub fn first_fault(
     is_whole: bool,
 ) -> Result<Option<BlockFault>, Memory>
     ensures fault { IfOk result (λ fault. fault ≡ spec.first_fault is_whole lines.now) }
+    ensures first { IfOk result (λ fault. MatchOption fault (AreRight is_whole lines.now) (IsFirstFault is_whole lines.now)) }
     ensures place { IfOk result (λ fault. IfSome fault (λ fault. fault.place < length lines.now)) }
 {
     let mut standing = Vec::new(alloc);
