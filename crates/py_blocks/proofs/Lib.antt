@@ -1,0 +1,9 @@
+pub mod BuildingLaws
+pub mod FaultLaws
+pub mod GatheredLaws
+pub mod LookingLaws
+pub mod NestLaws
+pub mod ParseLaws
+pub mod StackLaws
+pub mod StandingLaws
+pub mod TakingLaws

@@ -1,0 +1,10 @@
+pub mod Building
+pub mod Heads
+pub mod Looking
+pub mod Rows
+pub mod Rules
+pub mod Spelling
+pub mod Stack
+pub mod Standing
+pub mod Statements
+pub mod Taking
