@@ -155,6 +155,7 @@ turns_failed faults.NoForm first k start all below b mark ts l a em step = l.sam
   where
     none : k start l.tops ts ≡ fails
     none = behind_fails below (k start l.tops ts) (step below l.tops l.stands (sym em))
+
     go : (fuel : ℕ) → length ts ≤ fuel → behind below (turns code first k fuel start l.tops ts) ≡ fails
     go zero r = absurd (omega (arith, at_long first ts a))
     go (suc n) r = let h = none in rw (a, h) refl

@@ -78,14 +78,18 @@ pub keeps_nothing : Keeps nothing
 keeps_nothing = record { left = λ ts u rest e. let same : ts ≡ rest = cc in omega (arith, ap length same) }
 
 pub keeps_both : {p q : LineReader} → Keeps p → Keeps q → Keeps (both p q)
-keeps_both {p} {q} A B = record { left = λ ts u rest e.
-    let (x, mid, v, f, g) = got_after (p ts) q u rest e in
-    omega (arith, A.left ts x mid f, B.left mid v rest g) }
+keeps_both {p} {q} A B = record {
+  left = λ ts u rest e.
+      let (x, mid, v, f, g) = got_after (p ts) q u rest e in
+      omega (arith, A.left ts x mid f, B.left mid v rest g);
+}
 
 pub shrinks_both : {p q : LineReader} → Shrinks p → Keeps q → Shrinks (both p q)
-shrinks_both {p} {q} A B = record { left = λ ts u rest e.
-    let (x, mid, v, f, g) = got_after (p ts) q u rest e in
-    omega (arith, A.left ts x mid f, B.left mid v rest g) }
+shrinks_both {p} {q} A B = record {
+  left = λ ts u rest e.
+      let (x, mid, v, f, g) = got_after (p ts) q u rest e in
+      omega (arith, A.left ts x mid f, B.left mid v rest g);
+}
 
 pub keeps_choose : {p q : LineReader} (set : List ℕ) → Keeps p → Keeps q → Keeps (choose code set p q)
 keeps_choose {p} {q} set A B = record { left = λ ts u rest e. go ts u rest (at code set ts) e }
@@ -157,9 +161,11 @@ shrinks_bracketed opening closing A = shrinks_both (shrinks_skipped opening) (ke
 -- ---- behind what was read
 
 pub keeps_followed : {p : LineReader} {k : Cont Terminal} → Keeps p → KeepsOn k → Keeps (followed p k)
-keeps_followed {p} {k} A K = record { left = λ ts u rest e.
-    let (v, mid, f, g) = got_continue ts (p ts) k u rest e in
-    omega (arith, A.left ts v mid f, K.left ts v mid u rest g) }
+keeps_followed {p} {k} A K = record {
+  left = λ ts u rest e.
+      let (v, mid, f, g) = got_continue ts (p ts) k u rest e in
+      omega (arith, A.left ts v mid f, K.left ts v mid u rest g);
+}
 
 pub keeps_extended : {q : LineReader} (over : List Terminal → List Tree → List Tree) → Keeps q → KeepsOn (extended over q)
 keeps_extended {q} over A = record { left = λ all u ts v rest e. let (w, f) = got_make (λ front x. over front (u ++ x)) all (q ts) v rest e in A.left ts w rest f }
@@ -168,9 +174,11 @@ pub shrinks_extended : {q : LineReader} (over : List Terminal → List Tree → 
 shrinks_extended {q} over A = record { left = λ all u ts v rest e. let (w, f) = got_make (λ front x. over front (u ++ x)) all (q ts) v rest e in A.left ts w rest f }
 
 pub keeps_extended_where : {q : LineReader} (test : List Tree → Bool) (over : List Terminal → List Tree → List Tree) → Keeps q → KeepsOn (extended_where test over q)
-keeps_extended_where {q} test over A = record { left = λ all u ts v rest e.
-    let (w, f) = got_make (λ front x. over front (u ++ x)) all (filter (λ x. test (u ++ x)) (q ts)) v rest e in
-    A.left ts w rest (got_filter (λ x. test (u ++ x)) (q ts) w rest f) }
+keeps_extended_where {q} test over A = record {
+  left = λ all u ts v rest e.
+      let (w, f) = got_make (λ front x. over front (u ++ x)) all (filter (λ x. test (u ++ x)) (q ts)) v rest e in
+      A.left ts w rest (got_filter (λ x. test (u ++ x)) (q ts) w rest f);
+}
 
 pub keeps_nothing_more : KeepsOn nothing_more
 keeps_nothing_more = record { left = λ all u ts v rest e. let same : ts ≡ rest = cc in omega (arith, ap length same) }
@@ -199,18 +207,22 @@ pub keeps_on : {k : Cont Terminal} → ShrinksOn k → KeepsOn k
 keeps_on s = record { left = λ all u ts v rest e. omega (arith, s.left all u ts v rest e) }
 
 keeps_then : {k l : Cont Terminal} → KeepsOn k → KeepsOn l → KeepsOn (λ all u ts. continue all (k all u ts) l)
-keeps_then {k} {l} A B = record { left = λ all u ts v rest e.
-    let (w, mid, f, g) = got_continue all (k all u ts) l v rest e in
-    omega (arith, A.left all u ts w mid f, B.left all w mid v rest g) }
+keeps_then {k} {l} A B = record {
+  left = λ all u ts v rest e.
+      let (w, mid, f, g) = got_continue all (k all u ts) l v rest e in
+      omega (arith, A.left all u ts w mid f, B.left all w mid v rest g);
+}
 
 keeps_turns : {k : Cont Terminal} (set : List ℕ) → KeepsOn k → (n : ℕ) → KeepsOn (turns code set k n)
 keeps_turns set A zero = keeps_nothing_more
 keeps_turns set A (suc n) = keeps_maybe set (keeps_then A (keeps_turns set A n))
 
 pub keeps_in_turns : {p : LineReader} {k : Cont Terminal} (set : List ℕ) → Keeps p → KeepsOn k → Keeps (in_turns code p set k)
-keeps_in_turns {p} {k} set A K = record { left = λ ts u rest e.
-    let (v, mid, f, g) = got_continue ts (p ts) (turns code set k (length ts)) u rest e in
-    omega (arith, A.left ts v mid f, (keeps_turns set K (length ts)).left ts v mid u rest g) }
+keeps_in_turns {p} {k} set A K = record {
+  left = λ ts u rest e.
+      let (v, mid, f, g) = got_continue ts (p ts) (turns code set k (length ts)) u rest e in
+      omega (arith, A.left ts v mid f, (keeps_turns set K (length ts)).left ts v mid u rest g);
+}
 
 -- ---- for what the code has at hand
 

@@ -77,7 +77,13 @@ fn operator_kind(symbol: Symbol) -> Kind
 
 /// One of these symbols, without a name.
 #[tactic(auto, using(crate::proofs::Tokens::shown_at, crate::proofs::Tokens::shown_not))]
-pub fn show_plain(forest: &mut Forest, kind: Kind, line: &Line, rest: usize, set: &[Symbol]) -> Result<usize, Fault>
+pub fn show_plain(
+    forest: &mut Forest,
+    kind: Kind,
+    line: &Line,
+    rest: usize,
+    set: &[Symbol],
+) -> Result<usize, Fault>
     ensures { Reads line.now (trees forest.old) (trees forest.new) result (shown code (plain_leaf kind) (set_of set.now) (drop rest line.now)) }
 {
     if line.at(rest, set) {
@@ -90,7 +96,13 @@ pub fn show_plain(forest: &mut Forest, kind: Kind, line: &Line, rest: usize, set
 
 /// One of these symbols, with its text as the name.
 #[tactic(auto, using(crate::proofs::Tokens::shown_at, crate::proofs::Tokens::shown_not))]
-pub fn show_named(forest: &mut Forest, kind: Kind, line: &Line, rest: usize, set: &[Symbol]) -> Result<usize, Fault>
+pub fn show_named(
+    forest: &mut Forest,
+    kind: Kind,
+    line: &Line,
+    rest: usize,
+    set: &[Symbol],
+) -> Result<usize, Fault>
     ensures { Reads line.now (trees forest.old) (trees forest.new) result (shown code (named_leaf kind) (set_of set.now) (drop rest line.now)) }
 {
     if line.at(rest, set) {
@@ -103,7 +115,12 @@ pub fn show_named(forest: &mut Forest, kind: Kind, line: &Line, rest: usize, set
 
 /// One of these symbols as an atom.
 #[tactic(auto, using(crate::proofs::Tokens::shown_at, crate::proofs::Tokens::shown_not))]
-pub fn show_atom(forest: &mut Forest, line: &Line, rest: usize, set: &[Symbol]) -> Result<usize, Fault>
+pub fn show_atom(
+    forest: &mut Forest,
+    line: &Line,
+    rest: usize,
+    set: &[Symbol],
+) -> Result<usize, Fault>
     ensures { Reads line.now (trees forest.old) (trees forest.new) result (shown code atom_leaf (set_of set.now) (drop rest line.now)) }
 {
     if line.at(rest, set) {
@@ -116,7 +133,12 @@ pub fn show_atom(forest: &mut Forest, line: &Line, rest: usize, set: &[Symbol]) 
 
 /// One of these symbols as an operator.
 #[tactic(auto, using(crate::proofs::Tokens::shown_at, crate::proofs::Tokens::shown_not))]
-pub fn show_operator(forest: &mut Forest, line: &Line, rest: usize, set: &[Symbol]) -> Result<usize, Fault>
+pub fn show_operator(
+    forest: &mut Forest,
+    line: &Line,
+    rest: usize,
+    set: &[Symbol],
+) -> Result<usize, Fault>
     ensures { Reads line.now (trees forest.old) (trees forest.new) result (shown code operator_leaf (set_of set.now) (drop rest line.now)) }
 {
     if line.at(rest, set) {

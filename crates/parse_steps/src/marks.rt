@@ -9,39 +9,21 @@ pub const NAME: &[Symbol] = &[
     Symbol::Underscore,
 ];
 /// The symbols of `capture`.
-pub const CAPTURE: &[Symbol] = &[
-    Symbol::Name,
-    Symbol::MatchWord,
-    Symbol::CaseWord,
-];
+pub const CAPTURE: &[Symbol] = &[Symbol::Name, Symbol::MatchWord, Symbol::CaseWord];
 /// The symbols of `number`.
-pub const NUMBER: &[Symbol] = &[
-    Symbol::Number,
-];
+pub const NUMBER: &[Symbol] = &[Symbol::Number];
 /// The symbols of `plain_string`.
-pub const PLAIN_STRING: &[Symbol] = &[
-    Symbol::Str,
-];
+pub const PLAIN_STRING: &[Symbol] = &[Symbol::Str];
 /// The symbols of `byte_string`.
-pub const BYTE_STRING: &[Symbol] = &[
-    Symbol::Bytes,
-];
+pub const BYTE_STRING: &[Symbol] = &[Symbol::Bytes];
 /// The symbols of `format_string`.
-pub const FORMAT_STRING: &[Symbol] = &[
-    Symbol::FStr,
-];
+pub const FORMAT_STRING: &[Symbol] = &[Symbol::FStr];
 /// The symbols of `format_string_end`.
-pub const FORMAT_STRING_END: &[Symbol] = &[
-    Symbol::FStrEnd,
-];
+pub const FORMAT_STRING_END: &[Symbol] = &[Symbol::FStrEnd];
 /// The symbols of `field_open`.
-pub const FIELD_OPEN: &[Symbol] = &[
-    Symbol::FieldOpen,
-];
+pub const FIELD_OPEN: &[Symbol] = &[Symbol::FieldOpen];
 /// The symbols of `field_close`.
-pub const FIELD_CLOSE: &[Symbol] = &[
-    Symbol::FieldClose,
-];
+pub const FIELD_CLOSE: &[Symbol] = &[Symbol::FieldClose];
 /// The symbols of `simple_atom`.
 pub const SIMPLE_ATOM: &[Symbol] = &[
     Symbol::Name,
@@ -55,246 +37,121 @@ pub const SIMPLE_ATOM: &[Symbol] = &[
     Symbol::Ellipsis,
 ];
 /// The symbols of `constant_word`.
-pub const CONSTANT_WORD: &[Symbol] = &[
-    Symbol::NoneWord,
-    Symbol::TrueWord,
-    Symbol::FalseWord,
-];
+pub const CONSTANT_WORD: &[Symbol] = &[Symbol::NoneWord, Symbol::TrueWord, Symbol::FalseWord];
 /// The symbols of `and_word`.
-pub const AND_WORD: &[Symbol] = &[
-    Symbol::AndWord,
-];
+pub const AND_WORD: &[Symbol] = &[Symbol::AndWord];
 /// The symbols of `as_word`.
-pub const AS_WORD: &[Symbol] = &[
-    Symbol::AsWord,
-];
+pub const AS_WORD: &[Symbol] = &[Symbol::AsWord];
 /// The symbols of `assert_word`.
-pub const ASSERT_WORD: &[Symbol] = &[
-    Symbol::AssertWord,
-];
+pub const ASSERT_WORD: &[Symbol] = &[Symbol::AssertWord];
 /// The symbols of `async_word`.
-pub const ASYNC_WORD: &[Symbol] = &[
-    Symbol::AsyncWord,
-];
+pub const ASYNC_WORD: &[Symbol] = &[Symbol::AsyncWord];
 /// The symbols of `await_word`.
-pub const AWAIT_WORD: &[Symbol] = &[
-    Symbol::AwaitWord,
-];
+pub const AWAIT_WORD: &[Symbol] = &[Symbol::AwaitWord];
 /// The symbols of `case_word`.
-pub const CASE_WORD: &[Symbol] = &[
-    Symbol::CaseWord,
-];
+pub const CASE_WORD: &[Symbol] = &[Symbol::CaseWord];
 /// The symbols of `class_word`.
-pub const CLASS_WORD: &[Symbol] = &[
-    Symbol::ClassWord,
-];
+pub const CLASS_WORD: &[Symbol] = &[Symbol::ClassWord];
 /// The symbols of `def_word`.
-pub const DEF_WORD: &[Symbol] = &[
-    Symbol::DefWord,
-];
+pub const DEF_WORD: &[Symbol] = &[Symbol::DefWord];
 /// The symbols of `del_word`.
-pub const DEL_WORD: &[Symbol] = &[
-    Symbol::DelWord,
-];
+pub const DEL_WORD: &[Symbol] = &[Symbol::DelWord];
 /// The symbols of `elif_word`.
-pub const ELIF_WORD: &[Symbol] = &[
-    Symbol::ElifWord,
-];
+pub const ELIF_WORD: &[Symbol] = &[Symbol::ElifWord];
 /// The symbols of `else_word`.
-pub const ELSE_WORD: &[Symbol] = &[
-    Symbol::ElseWord,
-];
+pub const ELSE_WORD: &[Symbol] = &[Symbol::ElseWord];
 /// The symbols of `except_word`.
-pub const EXCEPT_WORD: &[Symbol] = &[
-    Symbol::ExceptWord,
-];
+pub const EXCEPT_WORD: &[Symbol] = &[Symbol::ExceptWord];
 /// The symbols of `finally_word`.
-pub const FINALLY_WORD: &[Symbol] = &[
-    Symbol::FinallyWord,
-];
+pub const FINALLY_WORD: &[Symbol] = &[Symbol::FinallyWord];
 /// The symbols of `for_word`.
-pub const FOR_WORD: &[Symbol] = &[
-    Symbol::ForWord,
-];
+pub const FOR_WORD: &[Symbol] = &[Symbol::ForWord];
 /// The symbols of `from_word`.
-pub const FROM_WORD: &[Symbol] = &[
-    Symbol::FromWord,
-];
+pub const FROM_WORD: &[Symbol] = &[Symbol::FromWord];
 /// The symbols of `global_word`.
-pub const GLOBAL_WORD: &[Symbol] = &[
-    Symbol::GlobalWord,
-];
+pub const GLOBAL_WORD: &[Symbol] = &[Symbol::GlobalWord];
 /// The symbols of `if_word`.
-pub const IF_WORD: &[Symbol] = &[
-    Symbol::IfWord,
-];
+pub const IF_WORD: &[Symbol] = &[Symbol::IfWord];
 /// The symbols of `import_word`.
-pub const IMPORT_WORD: &[Symbol] = &[
-    Symbol::ImportWord,
-];
+pub const IMPORT_WORD: &[Symbol] = &[Symbol::ImportWord];
 /// The symbols of `in_word`.
-pub const IN_WORD: &[Symbol] = &[
-    Symbol::InWord,
-];
+pub const IN_WORD: &[Symbol] = &[Symbol::InWord];
 /// The symbols of `is_word`.
-pub const IS_WORD: &[Symbol] = &[
-    Symbol::IsWord,
-];
+pub const IS_WORD: &[Symbol] = &[Symbol::IsWord];
 /// The symbols of `lambda_word`.
-pub const LAMBDA_WORD: &[Symbol] = &[
-    Symbol::LambdaWord,
-];
+pub const LAMBDA_WORD: &[Symbol] = &[Symbol::LambdaWord];
 /// The symbols of `match_word`.
-pub const MATCH_WORD: &[Symbol] = &[
-    Symbol::MatchWord,
-];
+pub const MATCH_WORD: &[Symbol] = &[Symbol::MatchWord];
 /// The symbols of `nonlocal_word`.
-pub const NONLOCAL_WORD: &[Symbol] = &[
-    Symbol::NonlocalWord,
-];
+pub const NONLOCAL_WORD: &[Symbol] = &[Symbol::NonlocalWord];
 /// The symbols of `not_word`.
-pub const NOT_WORD: &[Symbol] = &[
-    Symbol::NotWord,
-];
+pub const NOT_WORD: &[Symbol] = &[Symbol::NotWord];
 /// The symbols of `or_word`.
-pub const OR_WORD: &[Symbol] = &[
-    Symbol::OrWord,
-];
+pub const OR_WORD: &[Symbol] = &[Symbol::OrWord];
 /// The symbols of `raise_word`.
-pub const RAISE_WORD: &[Symbol] = &[
-    Symbol::RaiseWord,
-];
+pub const RAISE_WORD: &[Symbol] = &[Symbol::RaiseWord];
 /// The symbols of `return_word`.
-pub const RETURN_WORD: &[Symbol] = &[
-    Symbol::ReturnWord,
-];
+pub const RETURN_WORD: &[Symbol] = &[Symbol::ReturnWord];
 /// The symbols of `try_word`.
-pub const TRY_WORD: &[Symbol] = &[
-    Symbol::TryWord,
-];
+pub const TRY_WORD: &[Symbol] = &[Symbol::TryWord];
 /// The symbols of `while_word`.
-pub const WHILE_WORD: &[Symbol] = &[
-    Symbol::WhileWord,
-];
+pub const WHILE_WORD: &[Symbol] = &[Symbol::WhileWord];
 /// The symbols of `with_word`.
-pub const WITH_WORD: &[Symbol] = &[
-    Symbol::WithWord,
-];
+pub const WITH_WORD: &[Symbol] = &[Symbol::WithWord];
 /// The symbols of `yield_word`.
-pub const YIELD_WORD: &[Symbol] = &[
-    Symbol::YieldWord,
-];
+pub const YIELD_WORD: &[Symbol] = &[Symbol::YieldWord];
 /// The symbols of `lone_word`.
-pub const LONE_WORD: &[Symbol] = &[
-    Symbol::PassWord,
-    Symbol::BreakWord,
-    Symbol::ContinueWord,
-];
+pub const LONE_WORD: &[Symbol] = &[Symbol::PassWord, Symbol::BreakWord, Symbol::ContinueWord];
 /// The symbols of `left_paren`.
-pub const LEFT_PAREN: &[Symbol] = &[
-    Symbol::LeftParen,
-];
+pub const LEFT_PAREN: &[Symbol] = &[Symbol::LeftParen];
 /// The symbols of `right_paren`.
-pub const RIGHT_PAREN: &[Symbol] = &[
-    Symbol::RightParen,
-];
+pub const RIGHT_PAREN: &[Symbol] = &[Symbol::RightParen];
 /// The symbols of `left_bracket`.
-pub const LEFT_BRACKET: &[Symbol] = &[
-    Symbol::LeftBracket,
-];
+pub const LEFT_BRACKET: &[Symbol] = &[Symbol::LeftBracket];
 /// The symbols of `right_bracket`.
-pub const RIGHT_BRACKET: &[Symbol] = &[
-    Symbol::RightBracket,
-];
+pub const RIGHT_BRACKET: &[Symbol] = &[Symbol::RightBracket];
 /// The symbols of `left_brace`.
-pub const LEFT_BRACE: &[Symbol] = &[
-    Symbol::LeftBrace,
-];
+pub const LEFT_BRACE: &[Symbol] = &[Symbol::LeftBrace];
 /// The symbols of `right_brace`.
-pub const RIGHT_BRACE: &[Symbol] = &[
-    Symbol::RightBrace,
-];
+pub const RIGHT_BRACE: &[Symbol] = &[Symbol::RightBrace];
 /// The symbols of `comma`.
-pub const COMMA: &[Symbol] = &[
-    Symbol::Comma,
-];
+pub const COMMA: &[Symbol] = &[Symbol::Comma];
 /// The symbols of `colon`.
-pub const COLON: &[Symbol] = &[
-    Symbol::Colon,
-];
+pub const COLON: &[Symbol] = &[Symbol::Colon];
 /// The symbols of `dot`.
-pub const DOT: &[Symbol] = &[
-    Symbol::Dot,
-];
+pub const DOT: &[Symbol] = &[Symbol::Dot];
 /// The symbols of `dots`.
-pub const DOTS: &[Symbol] = &[
-    Symbol::Dot,
-    Symbol::Ellipsis,
-];
+pub const DOTS: &[Symbol] = &[Symbol::Dot, Symbol::Ellipsis];
 /// The symbols of `semicolon`.
-pub const SEMICOLON: &[Symbol] = &[
-    Symbol::Semicolon,
-];
+pub const SEMICOLON: &[Symbol] = &[Symbol::Semicolon];
 /// The symbols of `assign`.
-pub const ASSIGN: &[Symbol] = &[
-    Symbol::Assign,
-];
+pub const ASSIGN: &[Symbol] = &[Symbol::Assign];
 /// The symbols of `walrus`.
-pub const WALRUS: &[Symbol] = &[
-    Symbol::Walrus,
-];
+pub const WALRUS: &[Symbol] = &[Symbol::Walrus];
 /// The symbols of `arrow`.
-pub const ARROW: &[Symbol] = &[
-    Symbol::Arrow,
-];
+pub const ARROW: &[Symbol] = &[Symbol::Arrow];
 /// The symbols of `at_sign`.
-pub const AT_SIGN: &[Symbol] = &[
-    Symbol::AtSign,
-];
+pub const AT_SIGN: &[Symbol] = &[Symbol::AtSign];
 /// The symbols of `star`.
-pub const STAR: &[Symbol] = &[
-    Symbol::Star,
-];
+pub const STAR: &[Symbol] = &[Symbol::Star];
 /// The symbols of `double_star`.
-pub const DOUBLE_STAR: &[Symbol] = &[
-    Symbol::DoubleStar,
-];
+pub const DOUBLE_STAR: &[Symbol] = &[Symbol::DoubleStar];
 /// The symbols of `slash`.
-pub const SLASH: &[Symbol] = &[
-    Symbol::Slash,
-];
+pub const SLASH: &[Symbol] = &[Symbol::Slash];
 /// The symbols of `bar`.
-pub const BAR: &[Symbol] = &[
-    Symbol::Bar,
-];
+pub const BAR: &[Symbol] = &[Symbol::Bar];
 /// The symbols of `caret`.
-pub const CARET: &[Symbol] = &[
-    Symbol::Caret,
-];
+pub const CARET: &[Symbol] = &[Symbol::Caret];
 /// The symbols of `ampersand`.
-pub const AMPERSAND: &[Symbol] = &[
-    Symbol::Ampersand,
-];
+pub const AMPERSAND: &[Symbol] = &[Symbol::Ampersand];
 /// The symbols of `minus`.
-pub const MINUS: &[Symbol] = &[
-    Symbol::Minus,
-];
+pub const MINUS: &[Symbol] = &[Symbol::Minus];
 /// The symbols of `sign`.
-pub const SIGN: &[Symbol] = &[
-    Symbol::Plus,
-    Symbol::Minus,
-    Symbol::Tilde,
-];
+pub const SIGN: &[Symbol] = &[Symbol::Plus, Symbol::Minus, Symbol::Tilde];
 /// The symbols of `shift_operator`.
-pub const SHIFT_OPERATOR: &[Symbol] = &[
-    Symbol::LeftShift,
-    Symbol::RightShift,
-];
+pub const SHIFT_OPERATOR: &[Symbol] = &[Symbol::LeftShift, Symbol::RightShift];
 /// The symbols of `sum_operator`.
-pub const SUM_OPERATOR: &[Symbol] = &[
-    Symbol::Plus,
-    Symbol::Minus,
-];
+pub const SUM_OPERATOR: &[Symbol] = &[Symbol::Plus, Symbol::Minus];
 /// The symbols of `product_operator`.
 pub const PRODUCT_OPERATOR: &[Symbol] = &[
     Symbol::Star,
@@ -344,16 +201,9 @@ pub const CLOSES: &[Symbol] = &[
     Symbol::FieldClose,
 ];
 /// The symbols of `string_first`.
-pub const STRING_FIRST: &[Symbol] = &[
-    Symbol::Str,
-    Symbol::FStr,
-];
+pub const STRING_FIRST: &[Symbol] = &[Symbol::Str, Symbol::FStr];
 /// The symbols of `strings_first`.
-pub const STRINGS_FIRST: &[Symbol] = &[
-    Symbol::Bytes,
-    Symbol::Str,
-    Symbol::FStr,
-];
+pub const STRINGS_FIRST: &[Symbol] = &[Symbol::Bytes, Symbol::Str, Symbol::FStr];
 /// The symbols of `atom_first`.
 pub const ATOM_FIRST: &[Symbol] = &[
     Symbol::Name,
@@ -535,10 +385,7 @@ pub const VALUE_FIRST: &[Symbol] = &[
     Symbol::LeftBrace,
 ];
 /// The symbols of `unpacked_first`.
-pub const UNPACKED_FIRST: &[Symbol] = &[
-    Symbol::DoubleStar,
-    Symbol::Star,
-];
+pub const UNPACKED_FIRST: &[Symbol] = &[Symbol::DoubleStar, Symbol::Star];
 /// The symbols of `brace_first`.
 pub const BRACE_FIRST: &[Symbol] = &[
     Symbol::DoubleStar,
@@ -566,10 +413,7 @@ pub const BRACE_FIRST: &[Symbol] = &[
     Symbol::LeftBrace,
 ];
 /// The symbols of `starred_first`.
-pub const STARRED_FIRST: &[Symbol] = &[
-    Symbol::Star,
-    Symbol::DoubleStar,
-];
+pub const STARRED_FIRST: &[Symbol] = &[Symbol::Star, Symbol::DoubleStar];
 /// The symbols of `argument_first`.
 pub const ARGUMENT_FIRST: &[Symbol] = &[
     Symbol::Star,
@@ -648,22 +492,11 @@ pub const SLICES_FIRST: &[Symbol] = &[
     Symbol::LeftBrace,
 ];
 /// The symbols of `trailer_first`.
-pub const TRAILER_FIRST: &[Symbol] = &[
-    Symbol::Dot,
-    Symbol::LeftParen,
-    Symbol::LeftBracket,
-];
+pub const TRAILER_FIRST: &[Symbol] = &[Symbol::Dot, Symbol::LeftParen, Symbol::LeftBracket];
 /// The symbols of `clause_first`.
-pub const CLAUSE_FIRST: &[Symbol] = &[
-    Symbol::AsyncWord,
-    Symbol::ForWord,
-];
+pub const CLAUSE_FIRST: &[Symbol] = &[Symbol::AsyncWord, Symbol::ForWord];
 /// The symbols of `clause_or_comma`.
-pub const CLAUSE_OR_COMMA: &[Symbol] = &[
-    Symbol::AsyncWord,
-    Symbol::ForWord,
-    Symbol::Comma,
-];
+pub const CLAUSE_OR_COMMA: &[Symbol] = &[Symbol::AsyncWord, Symbol::ForWord, Symbol::Comma];
 /// The symbols of `comparison_first`.
 pub const COMPARISON_FIRST: &[Symbol] = &[
     Symbol::Less,
@@ -687,10 +520,7 @@ pub const PARAMETER_FIRST: &[Symbol] = &[
     Symbol::DoubleStar,
 ];
 /// The symbols of `signed_first`.
-pub const SIGNED_FIRST: &[Symbol] = &[
-    Symbol::Number,
-    Symbol::Minus,
-];
+pub const SIGNED_FIRST: &[Symbol] = &[Symbol::Number, Symbol::Minus];
 /// The symbols of `literal_first`.
 pub const LITERAL_FIRST: &[Symbol] = &[
     Symbol::Number,

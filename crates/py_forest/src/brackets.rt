@@ -17,7 +17,13 @@ const COMMA: &[Symbol] = &[Symbol::Comma];
 impl Forest {
     /// The trees from `mark` on become what round brackets from `start` up to `rest` hold.
     #[tactic(auto, using(crate::proofs::BracketLaws::parentheses_none, crate::proofs::BracketLaws::parentheses_one, crate::proofs::BracketLaws::parentheses_more, crate::proofs::BracketLaws::as_it_was))]
-    pub fn in_parentheses(&mut self, mark: usize, line: &Line, start: usize, rest: usize) -> Result<(), Fault>
+    pub fn in_parentheses(
+        &mut self,
+        mark: usize,
+        line: &Line,
+        start: usize,
+        rest: usize,
+    ) -> Result<(), Fault>
         ensures ok { OnOk result (trees self.new ≡ take mark (trees self.old) ++ in_parentheses_spec (before (drop start line.now) (drop rest line.now)) (drop mark (trees self.old))) }
         ensures err { IfErr result (λ e. e ≡ Memory) }
     {
@@ -39,7 +45,13 @@ impl Forest {
     }
 
     /// The trees from `mark` on become what square brackets hold.
-    pub fn in_brackets(&mut self, mark: usize, line: &Line, start: usize, rest: usize) -> Result<(), Fault>
+    pub fn in_brackets(
+        &mut self,
+        mark: usize,
+        line: &Line,
+        start: usize,
+        rest: usize,
+    ) -> Result<(), Fault>
         ensures ok { OnOk result (trees self.new ≡ take mark (trees self.old) ++ in_brackets_spec (before (drop start line.now) (drop rest line.now)) (drop mark (trees self.old))) }
         ensures err { IfErr result (λ e. e ≡ Memory) }
     {
@@ -52,7 +64,13 @@ impl Forest {
 
     /// The trees from `mark` on become what braces hold.
     #[tactic(auto, using(crate::proofs::BracketLaws::braces_none, crate::proofs::BracketLaws::braces_some))]
-    pub fn in_braces(&mut self, mark: usize, line: &Line, start: usize, rest: usize) -> Result<(), Fault>
+    pub fn in_braces(
+        &mut self,
+        mark: usize,
+        line: &Line,
+        start: usize,
+        rest: usize,
+    ) -> Result<(), Fault>
         ensures ok { OnOk result (trees self.new ≡ take mark (trees self.old) ++ in_braces_spec (before (drop start line.now) (drop rest line.now)) (drop mark (trees self.old))) }
         ensures err { IfErr result (λ e. e ≡ Memory) }
     {
@@ -74,7 +92,13 @@ impl Forest {
 
     /// The trees from `mark` on become what the brackets of a call hold.
     #[tactic(auto, using(crate::proofs::BracketLaws::as_it_was))]
-    pub fn call_arguments(&mut self, mark: usize, line: &Line, start: usize, rest: usize) -> Result<(), Fault>
+    pub fn call_arguments(
+        &mut self,
+        mark: usize,
+        line: &Line,
+        start: usize,
+        rest: usize,
+    ) -> Result<(), Fault>
         ensures ok { OnOk result (trees self.new ≡ take mark (trees self.old) ++ call_arguments_spec (before (drop start line.now) (drop rest line.now)) (drop mark (trees self.old))) }
         ensures err { IfErr result (λ e. e ≡ Memory) }
     {
@@ -87,7 +111,13 @@ impl Forest {
 
     /// The trees from `mark` on become a parameter with a star.
     #[tactic(auto, using(crate::proofs::BracketLaws::star_none, crate::proofs::BracketLaws::star_one, crate::proofs::BracketLaws::star_more))]
-    pub fn star_parameter(&mut self, mark: usize, line: &Line, start: usize, rest: usize) -> Result<(), Fault>
+    pub fn star_parameter(
+        &mut self,
+        mark: usize,
+        line: &Line,
+        start: usize,
+        rest: usize,
+    ) -> Result<(), Fault>
         ensures ok { OnOk result (trees self.new ≡ take mark (trees self.old) ++ star_parameter_spec (before (drop start line.now) (drop rest line.now)) (drop mark (trees self.old))) }
         ensures err { IfErr result (λ e. e ≡ Memory) }
     {

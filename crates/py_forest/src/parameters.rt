@@ -47,10 +47,26 @@ fn behind_parameter(stage: Stage, defaulted: bool) -> Option<Stage>
     ensures { result ≡ behind_parameter_spec stage defaulted }
 {
     match stage {
-        Stage::Start | Stage::Plain => Some(if defaulted { Stage::Defaulted } else { Stage::Plain }),
-        Stage::Defaulted => if defaulted { Some(Stage::Defaulted) } else { None },
-        Stage::PlainBehindSlash => Some(if defaulted { Stage::DefaultedBehindSlash } else { Stage::PlainBehindSlash }),
-        Stage::DefaultedBehindSlash => if defaulted { Some(Stage::DefaultedBehindSlash) } else { None },
+        Stage::Start | Stage::Plain => Some(if defaulted {
+            Stage::Defaulted
+        } else {
+            Stage::Plain
+        }),
+        Stage::Defaulted => if defaulted {
+            Some(Stage::Defaulted)
+        } else {
+            None
+        },
+        Stage::PlainBehindSlash => Some(if defaulted {
+            Stage::DefaultedBehindSlash
+        } else {
+            Stage::PlainBehindSlash
+        }),
+        Stage::DefaultedBehindSlash => if defaulted {
+            Some(Stage::DefaultedBehindSlash)
+        } else {
+            None
+        },
         Stage::BareStar | Stage::Keywords => Some(Stage::Keywords),
         Stage::End => None,
     }

@@ -17,8 +17,11 @@ use std::alloc::Global;
 use tree_nodes::Kind;
 
 const STRINGS: &[Symbol] = &[Symbol::Str, Symbol::Bytes, Symbol::FStr];
+
 const FORMAT_STRING: &[Symbol] = &[Symbol::FStr];
+
 const FIELD_OPEN: &[Symbol] = &[Symbol::FieldOpen];
+
 const FIELD_CLOSE: &[Symbol] = &[Symbol::FieldClose];
 
 /// A text behind others, with a blank between them.
@@ -90,7 +93,13 @@ fn has_format(line: &Line, start: usize, rest: usize) -> bool
 
 impl Forest {
     /// The trees from `mark` on become the kids of a literal of byte strings.
-    pub fn reduce_bytes(&mut self, mark: usize, line: &Line, start: usize, rest: usize) -> Result<(), Fault>
+    pub fn reduce_bytes(
+        &mut self,
+        mark: usize,
+        line: &Line,
+        start: usize,
+        rest: usize,
+    ) -> Result<(), Fault>
         ensures ok { OnOk result (trees self.new ≡ take mark (trees self.old) ++ whole (called kinds.BytesLiteral strings_text) (before (drop start line.now) (drop rest line.now)) (drop mark (trees self.old))) }
         ensures err { IfErr result (λ e. e ≡ Memory) }
     {
@@ -99,7 +108,13 @@ impl Forest {
     }
 
     /// The trees from `mark` on, which are fields, become the kids of a literal of strings.
-    pub fn reduce_strings(&mut self, mark: usize, line: &Line, start: usize, rest: usize) -> Result<(), Fault>
+    pub fn reduce_strings(
+        &mut self,
+        mark: usize,
+        line: &Line,
+        start: usize,
+        rest: usize,
+    ) -> Result<(), Fault>
         ensures ok { OnOk result (trees self.new ≡ take mark (trees self.old) ++ whole string_node (before (drop start line.now) (drop rest line.now)) (drop mark (trees self.old))) }
         ensures err { IfErr result (λ e. e ≡ Memory) }
     {

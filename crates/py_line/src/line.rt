@@ -194,7 +194,11 @@ impl Line {
     pub fn first_is(&self, start: usize, rest: usize, set: &[Symbol]) -> bool
         ensures { result ≡ mem (code (first_of (before (drop start self.now) (drop rest self.now)))) (set_of set.now) }
     {
-        let symbol = if self.count(start, rest) > 0 { self.symbol(start) } else { Symbol::BadField };
+        let symbol = if self.count(start, rest) > 0 {
+            self.symbol(start)
+        } else {
+            Symbol::BadField
+        };
         is_among(symbol, set)
     }
 
@@ -202,7 +206,11 @@ impl Line {
     pub fn second_is(&self, start: usize, rest: usize, set: &[Symbol]) -> bool
         ensures { result ≡ mem (code (second_of (before (drop start self.now) (drop rest self.now)))) (set_of set.now) }
     {
-        let symbol = if self.count(start, rest) > 1 { self.symbol(start + 1) } else { Symbol::BadField };
+        let symbol = if self.count(start, rest) > 1 {
+            self.symbol(start + 1)
+        } else {
+            Symbol::BadField
+        };
         is_among(symbol, set)
     }
 
@@ -211,7 +219,11 @@ impl Line {
         ensures { result ≡ mem (code (last_but_one_of (before (drop start self.now) (drop rest self.now)))) (set_of set.now) }
     {
         let count = self.count(start, rest);
-        let symbol = if count > 0 { self.symbol(start + count.saturating_sub(2)) } else { Symbol::BadField };
+        let symbol = if count > 0 {
+            self.symbol(start + count.saturating_sub(2))
+        } else {
+            Symbol::BadField
+        };
         is_among(symbol, set)
     }
 
@@ -219,14 +231,22 @@ impl Line {
     pub fn first_text(&self, start: usize, rest: usize) -> &str
         ensures { result.now ≡ first_text (before (drop start self.now) (drop rest self.now)) }
     {
-        if self.count(start, rest) > 0 { self.text(start) } else { "" }
+        if self.count(start, rest) > 0 {
+            self.text(start)
+        } else {
+            ""
+        }
     }
 
     /// The text of the second symbol from `start` up to `rest`; of fewer than two nothing.
     pub fn second_text(&self, start: usize, rest: usize) -> &str
         ensures { result.now ≡ second_text (before (drop start self.now) (drop rest self.now)) }
     {
-        if self.count(start, rest) > 1 { self.text(start + 1) } else { "" }
+        if self.count(start, rest) > 1 {
+            self.text(start + 1)
+        } else {
+            ""
+        }
     }
 
     /// The text of the last symbol from `start` up to `rest`; of no symbols nothing.
@@ -234,7 +254,11 @@ impl Line {
         ensures { result.now ≡ last_text (before (drop start self.now) (drop rest self.now)) }
     {
         let count = self.count(start, rest);
-        if count > 0 { self.text(start + (count - 1)) } else { "" }
+        if count > 0 {
+            self.text(start + (count - 1))
+        } else {
+            ""
+        }
     }
 }
 
