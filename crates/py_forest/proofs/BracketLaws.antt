@@ -7,7 +7,7 @@ use Rattle.tree_nodes.specs.declared.kind.Kind.TheVariants as kinds
 use Rattle.py_language.specs.Languages.{whole}
 use Rattle.py_grammar.specs.Terminals.{Terminal}
 use Rattle.py_grammar.specs.Nodes.{spanning, called, second_text}
-use Rattle.py_grammar.specs.Expressions.{is_comprehension, is_of_dict, ends_with_comma, in_parentheses, in_braces, star_parameter}
+use Rattle.py_grammar.specs.Expressions.{is_comprehension, is_of_dict, has_own_comma, in_parentheses, in_braces, star_parameter}
 use Rattle.py_forest.proofs.KindLaws.{drop_next}
 
 pub as_it_was : (mark : ℕ) (xs : List Tree) → take mark xs ++ drop mark xs ≡ xs
@@ -16,7 +16,7 @@ as_it_was mark xs = take-append-drop mark xs
 pub parentheses_none : (ts : List Terminal) (xs : List Tree) (mark : ℕ) → length xs ≤ mark → in_parentheses ts (drop mark xs) ≡ whole (spanning kinds.Tuple) ts (drop mark xs)
 parentheses_none ts xs mark l = let e = drop_all mark xs l in rw e refl
 
-pub parentheses_one : (ts : List Terminal) (xs : List Tree) (mark : ℕ) → length xs ≡ mark + 1 → in_parentheses ts (drop mark xs) ≡ (if ends_with_comma ts then whole (spanning kinds.Tuple) ts (drop mark xs) else drop mark xs)
+pub parentheses_one : (ts : List Terminal) (xs : List Tree) (mark : ℕ) → length xs ≡ mark + 1 → in_parentheses ts (drop mark xs) ≡ (if has_own_comma ts then whole (spanning kinds.Tuple) ts (drop mark xs) else drop mark xs)
 parentheses_one ts xs mark l = let e1 = drop_next xs mark (omega arith) in let e2 = drop_all (mark + 1) xs (omega arith) in rw (e1, e2) refl
 
 pub parentheses_more : (ts : List Terminal) (xs : List Tree) (mark : ℕ) → mark + 1 < length xs

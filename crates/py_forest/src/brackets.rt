@@ -1,7 +1,7 @@
 // What brackets hold.
 ghost use Rattle.std.specs.Prelude.{◌≡◌, ℕ, ◌≤◌, ◌++◌, ◌∷◌, [], length, take, drop, OnOk, IfErr};
 ghost use Rattle.py_language.specs.Readers.{before};
-ghost use Rattle.py_grammar.specs.Expressions.{in_parentheses as in_parentheses_spec, in_brackets as in_brackets_spec, in_braces as in_braces_spec, call_arguments as call_arguments_spec, star_parameter as star_parameter_spec};
+ghost use Rattle.py_grammar.specs.Expressions.{has_own_comma as has_own_comma_spec, in_parentheses as in_parentheses_spec, in_brackets as in_brackets_spec, in_braces as in_braces_spec, call_arguments as call_arguments_spec, star_parameter as star_parameter_spec};
 ghost use Rattle.py_forest.specs.Forests.{trees};
 ghost use Rattle.py_forest.specs.declared.fault.Fault.TheVariants.{Memory};
 
@@ -13,6 +13,19 @@ use py_line::Line;
 use tree_nodes::Kind;
 
 const COMMA: &[Symbol] = &[Symbol::Comma];
+
+const YIELD: &[Symbol] = &[Symbol::YieldWord];
+
+/// Whether round brackets from `start` up to `rest` end with a comma that is not a `yield`'s.
+fn has_own_comma(line: &Line, start: usize, rest: usize) -> bool
+    ensures { result ≡ has_own_comma_spec (before (drop start line.now) (drop rest line.now)) }
+{
+    if line.second_is(start, rest, YIELD) {
+        false
+    } else {
+        line.last_but_one_is(start, rest, COMMA)
+    }
+}
 
 impl Forest {
     /// The trees from `mark` on become what round brackets from `start` up to `rest` hold.
@@ -32,7 +45,7 @@ impl Forest {
             return self.reduce(Kind::Tuple, mark, line, start, rest);
         }
         if count == 1 {
-            if line.last_but_one_is(start, rest, COMMA) {
+            if has_own_comma(line, start, rest) {
                 return self.reduce(Kind::Tuple, mark, line, start, rest);
             }
             return Ok(());
