@@ -8,11 +8,9 @@ ghost use Rattle.py_blocks.specs.Spelling.{Spells, StepByOne};
 /// Rows spell one tree at most.
 pub fn one_tree()
     ensures { (rows : List (Row Tree)) (a b : Tree) → Spells rows a → Spells rows b → a ≡ b }
-{
-}
+{}
 
 /// Rows spell a tree where no line stands against a rule of blocks.
 pub fn some_tree()
     ensures { (rows : List (Row Tree)) → StepByOne 0 rows → AreRight true (map line_of rows) → (tree : Tree) × Spells rows tree }
-{
-}
+{}
