@@ -1,4 +1,5 @@
 pub mod Building
+pub mod Docstrings
 pub mod Heads
 pub mod Looking
 pub mod Rows
