@@ -2,9 +2,11 @@
 #![tactic(auto)]
 
 mod entry;
+mod found;
 mod gathering;
 mod reading;
 
 pub use entry::{Entry, Listed};
+pub use found::Found;
 pub use gathering::{MAX_FILE_BYTES, gather};
 pub use reading::Reading;
