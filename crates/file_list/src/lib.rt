@@ -4,6 +4,7 @@
 mod entry;
 mod found;
 mod gathering;
+mod known;
 mod reading;
 
 pub use entry::{Entry, Listed};
