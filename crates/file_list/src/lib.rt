@@ -5,6 +5,7 @@ mod entry;
 mod found;
 mod gathering;
 mod known;
+mod paths;
 mod reading;
 
 pub use entry::{Entry, Listed};
