@@ -1,6 +1,8 @@
 -- A step of the walk through a folder, by what was asked.
 use Rattle.std.proofs.Common.{◌≡◌, ℕ, zero, suc, ◌+◌, ◌-◌, ◌<◌, Bool, true, false, cond, List, [], ◌∷◌, ◌++◌, length, take, get_or, fold, Option, None, Some, refl, sym, ap, ◌∙◌, arith}
 use Rattle.std.proofs.lemmas.List.Sums.{fold_more}
+use Rattle.std.proofs.lemmas.Grind.{common_steps}
+use Rattle.std.proofs.Common.{◌≤◌}
 use Rattle.lint_outside.specs.declared.outside.Kind.{Kind}
 use Rattle.lint_outside.specs.declared.outside.Kind.TheVariants as kind
 use Rattle.lint_outside.specs.declared.outside.Listing.{Listing}
@@ -76,3 +78,14 @@ pub file_taken : (answers : Answers) (recursive : Bool) (found now : List Found)
 file_taken answers recursive found now path is made =
     let pair : List Found → Step = λ f. (f, false) in
     ap pair (made ∙ ap (λ b. cond b (with_file answers found path) found) is)
+
+-- a file that is an argument
+pub file_argued : (answers : Answers) (recursive : Bool) (found now : List Found) (path : List ℕ) → now ≡ with_file answers found path → (now, false) ≡ argument_step answers recursive found path (Some kind.File)
+file_argued answers recursive found now path made = let pair : List Found → Step = λ f. (f, false) in ap pair made
+
+-- all paths of a folder were taken
+pub walked_through : (answers : Answers) (ignore : List (List ℕ)) (recursive : Bool) (levels : ℕ) (folder : List ℕ) (found z : List Found) (names : Option Listing) (paths items : List (List ℕ)) (i : ℕ) → (levels ≡ 0 → ⊥) → names ≡ answers.names folder → Some (listing.Names paths) ≡ listed_in ignore folder names → items ≡ paths → length items ≤ i → z ≡ fold (visit answers ignore recursive (levels - 1)) found (take i items) → z ≡ walked answers ignore recursive levels folder found
+walked_through answers ignore recursive levels folder found z names paths items i some asked listed same all made =
+    let whole : take i items ≡ items = grind (arith, common_steps) in
+    walked_by answers ignore recursive levels folder found z names (Some (listing.Names paths)) some asked listed
+    (made ∙ ap (fold (visit answers ignore recursive (levels - 1)) found) (whole ∙ same))

@@ -11,7 +11,7 @@ pub returns-then-is_module_file-clause-asks : goal.returns-then-is_module_file-c
 returns-then-is_module_file-clause-asks g c =
     let file : Some kind.File ≡ c.in_ok-look.field-0 = cc in
     asks_then (λ answers. at_name answers c.args.recursive c.args.findings.now c.args.path.now) (c.add_file.new.findings, false)
-    c.look.ensures.held c.in_ok-look.ensures.asks c.in_ok-add_file.ensures.asks
+    c.look.ensures.held c.in_ok-look.ensures.asks c.in_ok-add_file-in-Some-File.ensures.asks
     (λ answers looked made. name_open answers c.args.recursive c.args.findings.now c.args.path.now c.is_closed.result (Some kind.File) (c.add_file.new.findings, false) c.is_closed.ensures c.if-is_closed.false (file ∙ looked)
     (file_taken answers c.args.recursive c.args.findings.now c.add_file.new.findings c.args.path.now (c.if-is_module_file.ensures ∙ ap is_module_file c.as_str.ensures) made))
 
