@@ -1,5 +1,5 @@
 -- The dotted module name of a file: from the topmost folder of the unbroken chain of packages above it.
-use Rattle.std.specs.Prelude.{ℕ, zero, suc, ◌-◌, ◌==◌, Bool, true, false, ◌&&◌, not, List, [], ◌∷◌, ◌++◌, length, take, codes, if◌then◌else◌}
+use Rattle.std.specs.Prelude.{ℕ, zero, suc, ◌-◌, Bool, false, ◌&&◌, not, List, [], ◌++◌, codes, if◌then◌else◌}
 use Rattle.std.specs.Str.{bytes_eq}
 use Rattle.file_list.specs.Answers.{Answers, is_file}
 use Rattle.file_list.specs.Paths.{folder_of, last_part, joined, stem, init_file, is_init_file}
@@ -24,12 +24,16 @@ abbrev pub packages : Answers → ℕ → List ℕ → List ℕ
 packages answers zero folder = []
 packages answers (suc most) folder =
     if is_package_folder answers folder
-    then packages answers most (folder_of folder) ++ (last_part folder ++ 46 ∷ [])
+    then packages answers most (folder_of folder) ++ (last_part folder ++ codes ".")
     else []
 
--- a package's own file has the package's name, and any other file its own behind those of its packages
-abbrev pub dotted : List ℕ → List ℕ → List ℕ
-dotted above path = if not (length above == 0) && is_init_file path then take (length above - 1) above else above ++ stem (last_part path)
+-- the file that makes its folder a package
+abbrev pub is_package_file : Answers → List ℕ → Bool
+is_package_file answers path = if is_init_file path then is_package_folder answers (folder_of path) else false
 
+-- a package's own file has its folder's name, and any other file its own, behind the names of the packages above
 abbrev pub module_name : Answers → List ℕ → List ℕ
-module_name answers path = dotted (packages answers most_packages (folder_of path)) path
+module_name answers path =
+    if is_package_file answers path
+    then packages answers (most_packages - 1) (folder_of (folder_of path)) ++ last_part (folder_of path)
+    else packages answers most_packages (folder_of path) ++ stem (last_part path)

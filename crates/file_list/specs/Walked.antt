@@ -8,27 +8,24 @@ use Rattle.lint_outside.specs.declared.outside.Listing.{Listing}
 use Rattle.lint_outside.specs.declared.outside.Listing.TheVariants as listing
 use Rattle.lint_messages.specs.Order.{text_cmp}
 use Rattle.lint_messages.specs.Sorting.{sorted_by}
-use Rattle.file_list.specs.declared.entry.Entry.{Entry}
-use Rattle.file_list.specs.declared.entry.Entry.TheVariants as entry
+use Rattle.file_list.specs.declared.found.Finding.{Finding}
+use Rattle.file_list.specs.declared.found.Finding.TheVariants as finding
 use Rattle.file_list.specs.declared.found.Found.{Found}
 use Rattle.file_list.specs.Answers.{Answers, most_entries}
 use Rattle.file_list.specs.Paths.{joined, without_slashes, is_module_file, is_init_file}
 use Rattle.file_list.specs.ModuleNames.{holds_init, module_name}
 
-abbrev pub is_too_many : Option Entry → Bool
-is_too_many None = false
-is_too_many (Some (entry.Source bytes)) = false
-is_too_many (Some entry.Missing) = false
-is_too_many (Some entry.NoPackage) = false
-is_too_many (Some entry.Failed) = false
-is_too_many (Some entry.TooLarge) = false
-is_too_many (Some entry.TooMany) = true
-is_too_many (Some entry.TooDeep) = false
-is_too_many (Some entry.TooMuch) = false
+abbrev pub is_too_many : Finding → Bool
+is_too_many finding.File = false
+is_too_many finding.Missing = false
+is_too_many finding.NoPackage = false
+is_too_many finding.Failed = false
+is_too_many finding.TooMany = true
+is_too_many finding.TooDeep = false
 
 -- gathering has ended
 abbrev pub has_ended : List Found → Bool
-has_ended found = list_any (λ f. is_too_many f.entry) found
+has_ended found = list_any (λ f. is_too_many f.finding) found
 
 -- a path that was taken before
 abbrev pub is_taken : List Found → List ℕ → Bool
@@ -39,21 +36,21 @@ abbrev pub is_closed : List Found → List ℕ → Bool
 is_closed found path = has_ended found || is_taken found path
 
 -- behind 20,000 entries any further one is TooMany
-abbrev pub next_entry : List Found → Option Entry → Option Entry
-next_entry found next = if nat_lt (length found) most_entries then next else Some entry.TooMany
+abbrev pub next_finding : ℕ → Finding → Finding
+next_finding count next = if nat_lt count most_entries then next else finding.TooMany
 
 -- one more entry
-abbrev pub with_found : List Found → List ℕ → List ℕ → Bool → Option Entry → List Found
+abbrev pub with_found : List Found → List ℕ → List ℕ → Bool → Finding → List Found
 with_found found path module_name is_package next =
-    found ++ record { path = path; module_name = module_name; is_package = is_package; entry = next_entry found next } ∷ []
+    found ++ record { path = path; module_name = module_name; is_package = is_package; finding = next_finding (length found) next } ∷ []
 
 -- where no file was found the module name is the path
-abbrev pub with_unread : List Found → List ℕ → Entry → List Found
-with_unread found path next = with_found found path path false (Some next)
+abbrev pub with_unread : List Found → List ℕ → Finding → List Found
+with_unread found path next = with_found found path path false next
 
 -- a file that is to be read
 abbrev pub with_file : Answers → List Found → List ℕ → List Found
-with_file answers found path = with_found found path (module_name answers path) (is_init_file path) None
+with_file answers found path = with_found found path (module_name answers path) (is_init_file path) finding.File
 
 -- a folder is walked where it holds `__init__.py`, or where all are
 abbrev pub is_walked : Answers → Bool → List ℕ → Bool
@@ -75,7 +72,7 @@ Step = List Found × Bool
 
 -- at a name in a walked folder, by what a look answers: a file is taken where it ends in `.py`
 abbrev pub name_step : Answers → Bool → List Found → List ℕ → Option Kind → Step
-name_step answers recursive found path None = (with_unread found path entry.Failed, false)
+name_step answers recursive found path None = (with_unread found path finding.Failed, false)
 name_step answers recursive found path (Some kind.Missing) = (found, false)
 name_step answers recursive found path (Some kind.File) = (if is_module_file path then with_file answers found path else found, false)
 name_step answers recursive found path (Some kind.Folder) = (found, is_walked answers recursive path)
@@ -86,12 +83,12 @@ at_name answers recursive found path = if is_closed found path then (found, fals
 -- at an argument that is a folder
 abbrev pub folder_step : Bool → List Found → List ℕ → Step
 folder_step true found path = (found, true)
-folder_step false found path = (with_unread found path entry.NoPackage, false)
+folder_step false found path = (with_unread found path finding.NoPackage, false)
 
 -- at an argument, by what a look answers: a file is taken whatever its ending
 abbrev pub argument_step : Answers → Bool → List Found → List ℕ → Option Kind → Step
-argument_step answers recursive found path None = (with_unread found path entry.Failed, false)
-argument_step answers recursive found path (Some kind.Missing) = (with_unread found path entry.Missing, false)
+argument_step answers recursive found path None = (with_unread found path finding.Failed, false)
+argument_step answers recursive found path (Some kind.Missing) = (with_unread found path finding.Missing, false)
 argument_step answers recursive found path (Some kind.File) = (with_file answers found path, false)
 argument_step answers recursive found path (Some kind.Folder) = folder_step (is_walked answers recursive path) found path
 
@@ -104,13 +101,13 @@ into walk step = if step.1 then walk step.0 else step.0
 
 -- the paths of a listing one behind the other, or the one entry of a folder that is not listed
 abbrev pub through : (List Found → List ℕ → List Found) → List ℕ → List Found → Option Listing → List Found
-through visit folder found None = with_unread found folder entry.Failed
-through visit folder found (Some listing.TooMany) = with_unread found folder entry.TooMany
+through visit folder found None = with_unread found folder finding.Failed
+through visit folder found (Some listing.TooMany) = with_unread found folder finding.TooMany
 through visit folder found (Some (listing.Names paths)) = fold visit found paths
 
 -- a folder walked, where folders are walked down to so many below each other
 abbrev pub walked : Answers → List (List ℕ) → Bool → ℕ → List ℕ → List Found → List Found
-walked answers ignore recursive zero folder found = with_unread found folder entry.TooDeep
+walked answers ignore recursive zero folder found = with_unread found folder finding.TooDeep
 walked answers ignore recursive (suc deeper) folder found =
     through (λ found path. into (walked answers ignore recursive deeper path) (at_name answers recursive found path))
     folder found (listed_in ignore folder (answers.names folder))

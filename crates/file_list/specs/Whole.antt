@@ -10,6 +10,8 @@ use Rattle.options.specs.Settings.{Settings}
 use Rattle.file_list.specs.declared.entry.Entry.{Entry}
 use Rattle.file_list.specs.declared.entry.Entry.TheVariants as entry
 use Rattle.file_list.specs.declared.entry.Listed.{Listed}
+use Rattle.file_list.specs.declared.found.Finding.{Finding}
+use Rattle.file_list.specs.declared.found.Finding.TheVariants as finding
 use Rattle.file_list.specs.declared.found.Found.{Found}
 use Rattle.file_list.specs.Answers.{Answers, answers_of}
 use Rattle.file_list.specs.Walked.{found_of}
@@ -38,13 +40,17 @@ file_entry so_far None = entry.Failed
 file_entry so_far (Some content.TooLarge) = entry.TooLarge
 file_entry so_far (Some (content.Whole bytes)) = if nat_le (so_far + length bytes) most_bytes_in_all then entry.Source bytes else entry.TooMuch
 
--- an entry that is settled without reading, or else this one
-abbrev pub settled_or : Entry → Option Entry → Entry
-settled_or read None = read
-settled_or read (Some settled) = settled
+-- the entry of a finding, where a file's is this one
+abbrev pub settled : Entry → Finding → Entry
+settled read finding.File = read
+settled read finding.Missing = entry.Missing
+settled read finding.NoPackage = entry.NoPackage
+settled read finding.Failed = entry.Failed
+settled read finding.TooMany = entry.TooMany
+settled read finding.TooDeep = entry.TooDeep
 
 abbrev pub entry_of : Answers → ℕ → Found → Entry
-entry_of answers so_far found = settled_or (file_entry so_far (answers.read found.path)) found.entry
+entry_of answers so_far found = settled (file_entry so_far (answers.read found.path)) found.finding
 
 abbrev pub with_read : Answers → List Listed → Found → List Listed
 with_read answers reading found =

@@ -1,13 +1,24 @@
 // What was found at a path, before files are read.
-use crate::Entry;
 use lint_values::Text;
 
-/// What was found at a path: an entry of a reading, or a file that is still to be read.
+/// What a path turned out to be, by looks and listings alone.
+#[derive(Clone, Copy, Debug)]
+pub enum Finding {
+    /// A file that is still to be read.
+    File,
+    Missing,
+    NoPackage,
+    /// A look or a listing failed.
+    Failed,
+    TooMany,
+    TooDeep,
+}
+
+/// An entry of a reading before its file is read.
 #[derive(Debug, Drop)]
 pub struct Found {
     pub path: Text,
     pub module_name: Text,
     pub is_package: bool,
-    /// None where the file is still to be read.
-    pub entry: Option<Entry>,
+    pub finding: Finding,
 }

@@ -2,13 +2,16 @@
 #![tactic(auto)]
 
 mod entry;
+mod findings;
 mod found;
 mod gathering;
 mod known;
+mod packages;
 mod paths;
 mod reading;
+mod walking;
 
 pub use entry::{Entry, Listed};
-pub use found::Found;
+pub use found::{Finding, Found};
 pub use gathering::{MAX_FILE_BYTES, gather};
 pub use reading::Reading;

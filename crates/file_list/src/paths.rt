@@ -10,11 +10,7 @@ use std::alloc::Global;
 pub(crate) fn without_slashes(path: &str) -> &str
     ensures { result.now ≡ without_slashes path.now }
 {
-    let mut rest = path;
-    while let Some(front) = rest.strip_suffix('/') {
-        rest = front;
-    }
-    rest
+    path.trim_end_matches('/')
 }
 
 /// The folder that a path writes out, empty where there is none.
