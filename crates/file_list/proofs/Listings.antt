@@ -48,8 +48,9 @@ module _ (k0 k1 : Known) (path : List ℕ) (found : Option Listing) (absent : ke
       → ((q : List ℕ) → bytes_eq path q ≡ false → list_any (is_listing_of q) fails ≡ list_any (is_listing_of q) right.fails)
       → ((q : List ℕ) → list_any (is_look_at q) fails ≡ list_any (is_look_at q) right.fails)
       → ((q : List ℕ) → list_any (is_read_of q) fails ≡ list_any (is_read_of q) right.fails)
+      → length fails ≤ length (failed_paths k1)
       → IsRight tree first f1 k1
-  names_right tree first f0 f1 fails grown right is names looks reads = record {
+  names_right tree first f0 f1 fails grown right is names looks reads many = record {
     fails = fails;
     grown = grown;
     agrees = record {
@@ -62,6 +63,7 @@ module _ (k0 k1 : Known) (path : List ℕ) (found : Option Listing) (absent : ke
     names = λ q e. let old = still_none (kept_names k0) (kept_names k1) path found absent names_after q e in names q old.1 ∙ right.names q old.0;
     looks = λ q e. looks q ∙ right.looks q (sym (looks_same q) ∙ e);
     reads = λ q. reads q ∙ right.reads q;
+    many = many;
   }
 
 names_right_by : (k0 k1 : Known) (path : List ℕ) (result : Result Listing FilesFault) (found : Option Listing) → kept_names k0 path ≡ None → KeepsNames k0 k1 path found
@@ -73,6 +75,7 @@ names_right_by k0 k1 path (Ok kind) (Some a) absent keeps tree first f0 f1 answe
     names_right k0 k1 path (Some a) absent keeps tree first f0 f1 right.fails (failed ∙ right.grown) right
     (ap Some (same ∙ answer) ∙ sym (ap (λ b. unless b (listing_of most_entries (get tree path))) (right.names path absent)))
     (λ q e. refl) (λ q. refl) (λ q. refl)
+    (let long : length (failed_paths k1) ≡ length (failed_paths k0) + 0 = ap length keeps.failed ∙ length-append (failed_paths k0) [] in let old = right.many in omega arith)
 names_right_by k0 k1 path (Err Memory) None absent keeps tree first f0 f1 answer failed reply right = cc
 names_right_by k0 k1 path (Err Failed) None absent keeps tree first f0 f1 answer failed reply right =
     let asked : Question = question.Names path in
@@ -82,6 +85,7 @@ names_right_by k0 k1 path (Err Failed) None absent keeps tree first f0 f1 answer
     (λ q e. other_behind (is_listing_of q) right.fails asked (text_turned path q e))
     (λ q. other_behind (is_look_at q) right.fails asked refl)
     (λ q. other_behind (is_read_of q) right.fails asked refl)
+    (let long : length (failed_paths k1) ≡ length (failed_paths k0) + 1 = ap length keeps.failed ∙ length-append (failed_paths k0) (path ∷ []) in let more : length (right.fails ++ asked ∷ []) ≡ length right.fails + 1 = length-append right.fails (asked ∷ []) in let old = right.many in omega arith)
 names_right_by k0 k1 path (Err fault) (Some a) absent keeps tree first f0 f1 answer failed reply right = cc
 
 names_counted : (k0 k1 : Known) (path : List ℕ) (result : Result Listing FilesFault) (found : Option Listing) → kept_names k0 path ≡ None → KeepsNames k0 k1 path found

@@ -50,6 +50,7 @@ pub record IsRight (tree : FileTree) (first failed : List Question) (known : Kno
   pub looks : (path : List ℕ) → kept_look known path ≡ None → list_any (is_look_at path) fails ≡ false
   pub names : (path : List ℕ) → kept_names known path ≡ None → list_any (is_listing_of path) fails ≡ false
   pub reads : (path : List ℕ) → list_any (is_read_of path) fails ≡ false
+  pub many : length fails ≤ length (failed_paths known)
 
 -- The failures that are kept are no more than the rise of the count.
 pub record IsCounted (start count : ℕ) (known : Known) : Type 0 where

@@ -73,3 +73,11 @@ pub record IsWholeReadingOf (tree : FileTree) (before now : List Question) (coun
   pub grown : now ≡ before ++ fails
   pub rose : RoseBy (length fails) count_before count_now
   pub is : reading ≡ whole_reading_of tree fails options arguments
+
+-- What was found is that of what the files hold and of the questions that failed meanwhile, which are no more than the
+-- rise of the count.
+pub record IsFoundIn (tree : FileTree) (before now : List Question) (count_before count_now : ℕ) (options : Settings) (arguments : List (List ℕ)) (found : List Found) : Type 0 where
+  pub fails : List Question
+  pub grown : now ≡ before ++ fails
+  pub rose : RoseBy (length fails) count_before count_now
+  pub is : found ≡ found_of (answers_of tree fails) options.ignore options.recursive arguments

@@ -10,8 +10,10 @@ mod packages;
 mod paths;
 mod reading;
 mod walking;
+mod whole;
 
 pub use entry::{Entry, Listed};
 pub use found::{Finding, Found};
 pub use gathering::{MAX_FILE_BYTES, gather};
 pub use reading::Reading;
+pub use whole::find_paths;
