@@ -94,8 +94,8 @@ names_counted k0 k1 path result None absent keeps c0 c1 cause reply start counte
     let risen : Rose c0 c1 = cause.failed (subst (λ r. IsErrOf r Failed) (sym reply) refl) in
     record {
       rose = let risen_by = counted.rose in
-        let long : length (failed_paths k1) ≡ length (failed_paths k0) + 1 = ap length keeps.failed ∙ length-append (failed_paths k0) (path ∷ []) in
-        subst (λ n. RoseBy n start c1) (sym long) (rose_once (length (failed_paths k0)) start c0 c1 risen_by risen);
+          let long : length (failed_paths k1) ≡ length (failed_paths k0) + 1 = ap length keeps.failed ∙ length-append (failed_paths k0) (path ∷ []) in
+          subst (λ n. RoseBy n start c1) (sym long) (rose_once (length (failed_paths k0)) start c0 c1 risen_by risen);
       names = λ q e. subst (λ ps. Contains ps q) (sym keeps.failed) (elim (is_new_or_old (kept_names k0) (kept_names k1) path None absent (names_after k0 k1 path None absent keeps) q None e) [
         | inl new ↦ subst (λ p. Contains (failed_paths k0 ++ path ∷ []) p) new.0 (Contains-append_right (failed_paths k0) (path ∷ []) path (search rules))
         | inr old ↦ Contains-append_left (failed_paths k0) (path ∷ []) q (counted.names q old.1)

@@ -73,6 +73,7 @@ no_slash_dropped (c ∷ d ∷ path) lacks = by_test (list_all is_slash (d ∷ pa
     by_whole : (a b : Bool) → b ≡ false → without_slashes (d ∷ path) ≡ d ∷ path → cond (a && b) [] (c ∷ without_slashes (d ∷ path)) ≡ c ∷ d ∷ path
     by_whole true b e rest = ap (λ t. cond t [] (c ∷ without_slashes (d ∷ path))) e ∙ ap (λ p. c ∷ p) rest
     by_whole false b e rest = ap (λ p. c ∷ p) rest
+
     by_test : (b : Bool) → list_all is_slash (d ∷ path) ≡ b → without_slashes (d ∷ path) ≡ d ∷ path → without_slashes (c ∷ d ∷ path) ≡ c ∷ d ∷ path
     by_test true e rest = absurd (let h : [] ≡ d ∷ path = sym (ap (λ b. cond b [] (d ∷ without_slashes path)) e) ∙ rest in cc)
     by_test false e rest = by_whole (eqb c 47) (list_all is_slash (d ∷ path)) e rest
@@ -80,9 +81,10 @@ no_slash_dropped (c ∷ d ∷ path) lacks = by_test (list_all is_slash (d ∷ pa
 -- the two parts around the last slash
 pub split_parts_last : (path front back : List ℕ) → SplitsAroundMatch (RFindsChar 47) path front back → (path ≡ front ++ 47 ∷ back) × (list_any is_slash back ≡ false)
 split_parts_last path front back split =
-    let at = drop_at_char 47 path split.0 split.1 split.2.1 (lit< tt) in
-    (sym (take-append-drop split.0 path) ∙ ap (λ t. t ++ drop split.0 path) (sym split.3) ∙ ap (λ d. front ++ d) (at ∙ ap (λ d. 47 ∷ d) (sym split.4)),
-    no_slash back (λ i h. NoCharPasses-char 47 back i (subst (NoCharPasses (λ d. eqb d 47)) (sym split.4) split.2.0) (lit< tt) h))
+    let at = drop_at_char 47 path split.0 split.1 split.2.1 (lit< tt) in (
+      sym (take-append-drop split.0 path) ∙ ap (λ t. t ++ drop split.0 path) (sym split.3) ∙ ap (λ d. front ++ d) (at ∙ ap (λ d. 47 ∷ d) (sym split.4)),
+      no_slash back (λ i h. NoCharPasses-char 47 back i (subst (NoCharPasses (λ d. eqb d 47)) (sym split.4) split.2.0) (lit< tt) h),
+    )
 
 pub folder_split : (path front back : List ℕ) → SplitsAroundMatch (RFindsChar 47) path front back → front ≡ folder_of path
 folder_split path front back split =

@@ -46,4 +46,3 @@ is_file None = false
 is_file (Some kind.File) = true
 is_file (Some kind.Folder) = false
 is_file (Some kind.Missing) = false
-

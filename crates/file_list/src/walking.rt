@@ -55,12 +55,7 @@ fn kept_paths(
 }
 
 // The paths of a folder's names that are looked at, in their order.
-fn paths_in(
-    alloc: Global,
-    ignore: &[Text],
-    folder: &Text,
-    names: Texts,
-) -> Result<Texts, Memory>
+fn paths_in(alloc: Global, ignore: &[Text], folder: &Text, names: Texts) -> Result<Texts, Memory>
     ensures { IfOk result (λ paths. paths ≡ paths_in ignore.now folder.now names) }
 {
     let names = sorted(names);
@@ -228,7 +223,16 @@ fn walk<F: Files>(
         Some(Listing::Names(paths)) => {
             for path in paths.as_slice() {
                 if at_name(known, findings, alloc, files, recursive, path)? {
-                    walk(known, findings, alloc, files, ignore, recursive, levels - 1, path)?;
+                    walk(
+                        known,
+                        findings,
+                        alloc,
+                        files,
+                        ignore,
+                        recursive,
+                        levels - 1,
+                        path,
+                    )?;
                 }
             }
             Ok(())
@@ -253,7 +257,9 @@ pub(crate) fn with_argument<F: Files>(
 {
     let path = Text::from_str(alloc, without_slashes(argument.as_str()))?;
     if at_argument(known, findings, alloc, files, recursive, &path)? {
-        walk(known, findings, alloc, files, ignore, recursive, MAX_LEVELS, &path)?;
+        walk(
+            known, findings, alloc, files, ignore, recursive, MAX_LEVELS, &path,
+        )?;
         return Ok(());
     }
     Ok(())

@@ -29,7 +29,15 @@ fn found_of<F: Files>(
 {
     let mut findings = Findings::new(alloc);
     for argument in args {
-        with_argument(known, &mut findings, alloc, files, ignore, recursive, argument)?;
+        with_argument(
+            known,
+            &mut findings,
+            alloc,
+            files,
+            ignore,
+            recursive,
+            argument,
+        )?;
     }
     Ok(findings)
 }

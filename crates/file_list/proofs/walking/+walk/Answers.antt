@@ -22,15 +22,15 @@ loop-path-preserved g t c =
     let so_far = c.loop-path.invariant in
     let seen = c.in_ok-at_name-in-Some-Names.ensures in
     let both = asks_then (λ answers. at_name answers c.args.recursive (fold (visit answers c.args.ignore.now c.args.recursive (c.args.levels - 1)) c.args.findings.now (take c.loop-path.path-index c.as_slice-path-items.result.now)) c.path-item.result) (c.at_name.new.findings, c.in_ok-at_name-in-Some-Names.field-0)
-          so_far.held so_far.asks seen.asks (λ answers first second. second ∙ ap (λ f. at_name answers c.args.recursive f c.path-item.result) first) in
+    so_far.held so_far.asks seen.asks (λ answers first second. second ∙ ap (λ f. at_name answers c.args.recursive f c.path-item.result) first) in
     elim c.if-branch.branch [
-      then-branch+in_ok-walk-in-Some-Names w ↦ rw (w.known-is, w.findings-is, w.files-is) record {
+      | then-branch+in_ok-walk-in-Some-Names w ↦ rw (w.known-is, w.findings-is, w.files-is) record {
         asks = asks_then (λ answers. fold (visit answers c.args.ignore.now c.args.recursive (c.args.levels - 1)) c.args.findings.now (take (c.loop-path.path-index + 1) c.as_slice-path-items.result.now)) w.walk.new.findings
             (c.at_name.ensures.held ∙ so_far.held) both w.in_ok-walk-in-Some-Names.ensures.asks
             (λ answers first second. step_on answers c.args.ignore.now c.args.recursive (c.args.levels - 1) c.args.findings.now c.as_slice-path-items.result.now c.loop-path.path-index c.path-item.result (omega arith) c.path-item.is c.at_name.new.findings w.walk.new.findings c.in_ok-at_name-in-Some-Names.field-0 first w.if-branch.true second);
         held = w.walk.ensures.held ∙ c.at_name.ensures.held ∙ so_far.held;
       }
-    | else-branch w ↦ rw (w.known-is, w.findings-is, w.files-is) record {
+      | else-branch w ↦ rw (w.known-is, w.findings-is, w.files-is) record {
         asks = asks_to (λ answers. fold (visit answers c.args.ignore.now c.args.recursive (c.args.levels - 1)) c.args.findings.now (take (c.loop-path.path-index + 1) c.as_slice-path-items.result.now)) c.at_name.new.findings
             both (λ answers first. step_past answers c.args.ignore.now c.args.recursive (c.args.levels - 1) c.args.findings.now c.as_slice-path-items.result.now c.loop-path.path-index c.path-item.result (omega arith) c.path-item.is c.at_name.new.findings c.in_ok-at_name-in-Some-Names.field-0 first w.if-branch.false);
         held = c.at_name.ensures.held ∙ so_far.held;

@@ -1,5 +1,4 @@
 use Rattle.std.proofs.Common.{rules, subst, sym}
-
 use Rattle.file_list.proofs.Taken.{sorted_names}
 use Rattle.file_list.proofs.walking.sorted.Goals as goal
 
