@@ -22,7 +22,7 @@ behind_fails : (b : List Tree) (r : Read Terminal) → behind b r ≡ fails → 
 behind_fails b fails e = refl
 behind_fails b (got u rest) e = absurd cc
 
-at_long : (first : List ℕ) (ts : List Terminal) → at code first ts ≡ true → 1 ≤ length ts
+pub at_long : (first : List ℕ) (ts : List Terminal) → at code first ts ≡ true → 1 ≤ length ts
 at_long first [] e = absurd cc
 at_long first (t ∷ ts) e = omega arith
 
@@ -174,3 +174,7 @@ failed_make faults.NoForm b over all r h = rw (behind_make b over all r, h) refl
 pub failed_after : (e : Fault) (b : List Tree) (r : Read Terminal) (q : LineReader) → Failed e (behind b r) → Failed e (behind b (after r q))
 failed_after faults.Memory b r q h = tt
 failed_after faults.NoForm b r q h = rw (behind_after_is b r q, h) refl
+
+-- where the first is read and the second fails, so do both
+pub failed_behind : (e : Fault) (b m : List Tree) (r : Read Terminal) (q : LineReader) (ts : List Terminal) → behind b r ≡ got m ts → Failed e (behind m (q ts)) → Failed e (behind b (after r q))
+failed_behind e b m r q ts g h = failed_same e _ _ (behind_after b m r q ts g) h

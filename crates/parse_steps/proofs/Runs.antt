@@ -46,7 +46,7 @@ abbrev pub gone_on : List ℕ → (List Terminal → List Tree → List Tree) �
 gone_on set over q all k fails = fails
 gone_on set over q all k (got m mid) = if at code set mid then remade over all k (behind m (q mid)) else got m mid
 
-behind_extended : (b u : List Tree) (over : List Terminal → List Tree → List Tree) (all : List Terminal) (r : Read Terminal)
+pub behind_extended : (b u : List Tree) (over : List Terminal → List Tree → List Tree) (all : List Terminal) (r : Read Terminal)
     → behind b (make (λ front v. over front (u ++ v)) all r) ≡ remade over all (length b) (behind (b ++ u) r)
 behind_extended b u over all fails = refl
 behind_extended b u over all (got v rest) =

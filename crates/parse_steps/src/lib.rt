@@ -6,4 +6,4 @@ pub mod marks;
 mod steps;
 
 pub use leaves::{show_atom, show_named, show_operator, show_plain};
-pub use steps::skip;
+pub use steps::{behind, skip};

@@ -12,6 +12,7 @@ mod token;
 
 pub use fault::LineFault;
 pub use line::{depth, terminals};
+pub use place::end_line_of;
 
 #[cfg(test)]
 mod tests;

@@ -79,8 +79,8 @@ pub(crate) fn moved(text: &[u8], pos: Pos, cursor: Cursor, place: usize) -> Curs
     Cursor { place, at }
 }
 
-/// The line on which the last byte of a text stands.
-pub(crate) fn end_line_of(pos: Pos, text: &str) -> u32
+/// The line on which the last byte of a text stands that begins here.
+pub fn end_line_of(pos: Pos, text: &str) -> u32
     requires lines { pos.line + length text.now ≤ 2 ^ 32 }
     requires columns { pos.col + length text.now ≤ 2 ^ 32 }
     ensures { result ≡ end_line_of pos text.now }

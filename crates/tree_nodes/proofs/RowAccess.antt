@@ -38,6 +38,13 @@ node-is names kids rows now n row view built l e =
 pub kind-is : (names kids : List ℕ) (rows : List BuiltRow) (now : List Row) (n : ℕ) (row : BuiltRow) → rows_in names kids rows ≡ now → IsBuilt names kids rows → n < length now → row ≡ get_or rows n row → row.label.kind ≡ (tree_of now n).node.kind
 kind-is names kids rows now n row view built l e = sym (ap (λ (t : Tree). t.node.kind) (node-is names kids rows now n row view built l e))
 
+pub pos-is : (names kids : List ℕ) (rows : List BuiltRow) (now : List Row) (n : ℕ) (row : BuiltRow) → rows_in names kids rows ≡ now → IsBuilt names kids rows → n < length now → row ≡ get_or rows n row → row.label.pos ≡ (tree_of now n).node.pos
+pos-is names kids rows now n row view built l e = sym (ap (λ (t : Tree). t.node.pos) (node-is names kids rows now n row view built l e))
+
+pub end-line-is : (names kids : List ℕ) (rows : List BuiltRow) (now : List Row) (n : ℕ) (row : BuiltRow) → rows_in names kids rows ≡ now → IsBuilt names kids rows → n < length now → row ≡ get_or rows n row
+    → row.label.end_line ≡ (tree_of now n).node.end_line
+end-line-is names kids rows now n row view built l e = sym (ap (λ (t : Tree). t.node.end_line) (node-is names kids rows now n row view built l e))
+
 pub row-name-is : (names kids : List ℕ) (rows : List BuiltRow) (now : List Row) (n : ℕ) (row : BuiltRow) → rows_in names kids rows ≡ now → IsBuilt names kids rows → n < length now → row ≡ get_or rows n row → name_in names row.label ≡ (tree_of now n).node.name
 row-name-is names kids rows now n row view built l e = sym (ap (λ (t : Tree). t.node.name) (node-is names kids rows now n row view built l e))
 

@@ -106,6 +106,22 @@ impl TreeBuilder {
         self.rows[row as usize].label.kind
     }
 
+    /// The place of a row.
+    pub fn pos(&self, row: u32) -> Pos
+        requires { row < length self.now }
+        ensures { result ≡ (tree_of self.now row).node.pos }
+    {
+        self.rows[row as usize].label.pos
+    }
+
+    /// The last line of a row.
+    pub fn end_line(&self, row: u32) -> u32
+        requires { row < length self.now }
+        ensures { result ≡ (tree_of self.now row).node.end_line }
+    {
+        self.rows[row as usize].label.end_line
+    }
+
     /// The name of a row.
     pub fn name(&self, row: u32) -> Option<&str>
         requires { row < length self.now }
