@@ -1,0 +1,76 @@
+// What stands between commas.
+ghost use Rattle.std.specs.Prelude.{◌≡◌, ℕ, List, drop};
+ghost use Rattle.py_grammar.specs.Symbols.{set_of};
+ghost use Rattle.py_grammar.specs.Reading.{commas};
+ghost use Rattle.py_grammar.specs.ReadingLines.{phrase_at};
+ghost use Rattle.py_forest.specs.Forests.{trees};
+ghost use Rattle.parse_steps.specs.Runs.{Reads, GivesReader};
+ghost use Rattle.parse_header.specs.Parts.{part_first, part_at};
+
+use parse_steps::behind;
+use parse_steps::marks::{COMMA, PARAMETER_FIRST, TEST_FIRST};
+use py_forest::{Fault, Forest};
+use py_grammar::Symbol;
+use py_line::Line;
+
+/// What stands between commas.
+#[derive(Clone, Copy, Debug, PartialEq, Eq)]
+pub enum Part {
+    /// A parameter of a function.
+    Parameter,
+    /// An item of a `with` statement.
+    WithItem,
+}
+
+/// With what a part begins.
+fn first(part: Part) -> &'static [Symbol]
+    ensures { set_of result.now ≡ part_first part }
+{
+    match part {
+        Part::Parameter => PARAMETER_FIRST,
+        Part::WithItem => TEST_FIRST,
+    }
+}
+
+/// A part.
+fn one<G: Fn(&mut Forest, usize) -> Result<usize, Fault>>(
+    step: &G,
+    depth: u32,
+    part: Part,
+    forest: &mut Forest,
+    line: &Line,
+    rest: usize,
+) -> Result<usize, Fault>
+    requires callable { G.IsAlwaysCallable step.now }
+    requires gives { GivesReader (G.post step.now) line.now (part_at (phrase_at depth) part) }
+    ensures { Reads line.now (trees forest.old) (trees forest.new) result (part_at (phrase_at depth) part (drop rest line.now)) }
+{
+    let _depth = depth;
+    let _part = part;
+    let _line = line;
+    step(forest, rest)
+}
+
+/// Parts with commas between them, and maybe one behind them.
+pub fn list<G: Fn(&mut Forest, usize) -> Result<usize, Fault>>(
+    step: &G,
+    depth: u32,
+    part: Part,
+    forest: &mut Forest,
+    line: &Line,
+    rest: usize,
+) -> Result<usize, Fault>
+    requires callable { G.IsAlwaysCallable step.now }
+    requires gives { GivesReader (G.post step.now) line.now (part_at (phrase_at depth) part) }
+    ensures { Reads line.now (trees forest.old) (trees forest.new) result (commas (part_first part) (part_at (phrase_at depth) part) (drop rest line.now)) }
+{
+    let mut rest = one(step, depth, part, forest, line, rest)?;
+    'parts: while line.at(rest, COMMA) {
+        rest = behind(line, rest);
+        if !line.at(rest, first(part)) {
+            return Ok(rest);
+        }
+        rest = one(step, depth, part, forest, line, rest)?;
+    }
+    Ok(rest)
+}

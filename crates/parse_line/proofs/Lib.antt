@@ -1,0 +1,4 @@
+pub mod Bodies
+pub mod Deep
+pub mod LineLaws
+pub mod NestingLaws

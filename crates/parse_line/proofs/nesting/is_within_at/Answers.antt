@@ -1,0 +1,29 @@
+use Rattle.std.proofs.Common.{◌<◌, nat_le, length, subst, sym, ap, ◌∙◌, arith}
+use Rattle.std.proofs.lemmas.List.{length-map, get_or-map, get_or_read}
+use Rattle.tree_nodes.specs.Trees.{Tree}
+use Rattle.tree_nodes.specs.Back.{no_tree}
+use Rattle.py_language.specs.Nesting.{nesting}
+use Rattle.py_grammar.specs.Weights.{weight}
+use Rattle.py_forest.specs.declared.top.Top.{Top}
+use Rattle.py_forest.specs.Forests.{trees, tree_at}
+use Rattle.parse_line.proofs.nesting.is_within_at.Goals as goal
+
+pub index-requires : goal.index-requires
+unfolding trees
+index-requires c = omega (arith, c.requires, length-map c.args.forest.now.tops.items (tree_at c.args.forest.now.builder), c.args.forest.now.tops.ok.0)
+
+pub is_within-requires : goal.is_within-requires
+unfolding trees
+is_within-requires c =
+    let f = c.args.forest.now in
+    let inside : c.args.place < length f.tops.items = omega (arith, c.requires, length-map f.tops.items (tree_at f.builder)) in
+    let same = get_or_read f.tops.items c.args.place _ inside c.index.ensures c.index.result.now in
+    subst (λ (t : Top). t.row < length f.builder) (sym same) (f.tops_are_made c.args.place c.index.result.now inside).made
+
+pub returns : goal.returns
+unfolding trees
+returns c =
+    let f = c.args.forest.now in
+    let inside : c.args.place < length f.tops.items = omega (arith, c.requires, length-map f.tops.items (tree_at f.builder)) in
+    let same = get_or_read f.tops.items c.args.place _ inside c.index.ensures c.index.result.now in
+    c.is_within.ensures ∙ ap (λ (t : Tree). nat_le (nesting weight t) c.args.left) (ap (tree_at f.builder) same ∙ sym (get_or-map (tree_at f.builder) f.tops.items c.args.place c.index.result.now no_tree inside))

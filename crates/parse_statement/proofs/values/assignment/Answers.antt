@@ -1,0 +1,33 @@
+-- All but the last are bound.
+use Rattle.std.proofs.Common.{◌≡◌, true, false, drop, arith}
+use Rattle.std.proofs.lemmas.Result.{err_from_is_err_and}
+use Rattle.tree_nodes.specs.declared.kind.Kind.TheVariants as kinds
+use Rattle.py_language.specs.Languages.{whole}
+use Rattle.py_language.specs.Readers.{before}
+use Rattle.py_grammar.specs.Nodes.{spanning}
+use Rattle.py_grammar.specs.Statements.{targets_before_last, assigned, bound_before_last}
+use Rattle.py_forest.specs.Forests.{trees}
+use Rattle.parse_statement.proofs.ValueLaws.{changed_done, mark_within, tested_done, tested_failed, tested_fails}
+use Rattle.parse_statement.proofs.values.assignment.Goals as goal
+
+pub returns : goal.returns
+returns g c below u e l =
+    let line = c.args.line.now in
+    let b = trees c.args.forest.now in
+    let read = c.in_ok-rest.ensures in
+    let test : targets_before_last (drop c.args.mark (trees c.assigned_values.new.forest)) ≡ true = grind arith in
+    tested_done targets_before_last assigned below u b _ _ (drop c.args.start line) c.args.mark _ _ e l read test
+    (changed_done (whole (spanning kinds.Assign)) bound_before_last _ _ _ (before (drop c.args.start line) (drop c.in_ok-rest.rest line)) c.args.mark (mark_within below u b _ c.args.mark _ _ e l read) c.in_ok-bind_before_last.ensures.ok c.in_ok-reduce.ensures.ok)
+
+pub returns-then-not-targets_before_last : goal.returns-then-not-targets_before_last
+returns-then-not-targets_before_last g c below u e l =
+    let line = c.args.line.now in
+    let b = trees c.args.forest.now in
+    let read = c.in_ok-rest.ensures in
+    let test : targets_before_last (drop c.args.mark (trees c.assigned_values.new.forest)) ≡ false = grind arith in
+    tested_fails targets_before_last assigned below u b _ (drop c.args.start line) c.args.mark _ _ e l read test
+
+pub returns-in_err-rest : goal.returns-in_err-rest
+returns-in_err-rest g c below u e l =
+    let p = err_from_is_err_and c.from_residual.result c.from_residual.ensures.1 in
+    rw (p.1, p.2) (tested_failed _ targets_before_last assigned below u (trees c.args.forest.now) (drop c.args.start c.args.line.now) _ (c.in_err-rest.ensures))
