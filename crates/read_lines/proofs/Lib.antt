@@ -1,0 +1,3 @@
+pub mod CopyLaws
+pub mod FormLaws
+pub mod OnlyLaws
