@@ -5,8 +5,12 @@ use Rattle.std.proofs.lemmas.List.{append-nil, length-replicate}
 use Rattle.tree_nodes.specs.Trees.{Tree}
 use Rattle.py_blocks.specs.Rows.{Row}
 use Rattle.py_blocks.specs.Statements.{Lines, none, line, flat, AreAt, Level, nothing, gathered, decorated, all_decorated, with_line, made_by}
-use Rattle.py_blocks.specs.Spelling.{StepByOne}
 use Rattle.py_blocks.specs.Stack.{first_or, others, deepened, joined, taken, stack}
+
+-- a line that is deeper than the line before, of that level, is one level deeper
+abbrev pub StepByOne : ℕ → List (Row Tree) → Type 0
+StepByOne level [] = Unit {0}
+StepByOne level (row ∷ rows) = (row.level ≤ level + 1) × StepByOne row.level rows
 
 -- ---- levels that are opened
 

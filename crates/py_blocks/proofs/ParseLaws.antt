@@ -1,5 +1,5 @@
 -- What is read is what the rows spell, and what is found is where the first fault stands.
-use Rattle.std.proofs.Common.{◌≡◌, ℕ, zero, suc, ◌+◌, ◌<◌, ◌≤◌, List, [], ◌∷◌, ◌++◌, Bool, true, false, nat_lt, not, ◌&&◌, length, get_or, map, Option, Some, None, Result, Ok, Err, refl, sym, ap, subst, ◌∙◌, arith}
+use Rattle.std.proofs.Common.{◌≡◌, ℕ, zero, suc, ◌+◌, ◌<◌, ◌≤◌, List, [], ◌∷◌, ◌++◌, Bool, true, false, nat_lt, nat_eq, not, ◌&&◌, length, get_or, map, Option, Some, None, Result, Ok, Err, refl, sym, ap, subst, ◌∙◌, arith}
 use Rattle.std.specs.Prelude.{IfOk, IfErr, IfSome}
 use Rattle.std.proofs.lemmas.List.{length-map}
 use Rattle.std.proofs.lemmas.Bool.Decides.{nat_tests}
@@ -14,13 +14,14 @@ use Rattle.py_blocks.specs.declared.fault.BlockError.{BlockError}
 use Rattle.py_blocks.specs.declared.fault.BlockError.TheVariants.{At, Memory}
 use Rattle.py_blocks.specs.Heads.{is_header}
 use Rattle.py_blocks.specs.Rows.{Row, row_of, map_row, is_empty, line_of}
-use Rattle.py_blocks.specs.Rules.{first_fault, AreRight, IsFirstFault}
+use Rattle.py_blocks.specs.Rules.{level_of, nearest, opens, fault_behind, first_fault, AreRight, IsFirstFault}
 use Rattle.py_blocks.specs.Statements.{Level, nothing, Lines, flat, AreAt, all_decorated, with_line, made_by, module_over}
 use Rattle.py_blocks.specs.Stack.{stack, first_or}
-use Rattle.py_blocks.specs.Spelling.{Spells, StepByOne, line_at, IsFirstAt, OnFault, GivesOnly, FaultsOnly}
+use Rattle.py_blocks.specs.Spelling.{Spells, line_at, IsFirstAt, OnFault, GivesOnly, FaultsOnly}
 use Rattle.py_blocks.specs.Taking.{grown, made_of, tree_by, IsRead, IsFoundAt}
 use Rattle.py_blocks.proofs.FaultLaws.{is-first, are-right, is-found, none-found}
-use Rattle.py_blocks.proofs.NestLaws.{made-on-top, Nested, nested, height, steps-decorated, height-decorated}
+use Rattle.py_blocks.proofs.FreeLines.{free}
+use Rattle.py_blocks.proofs.NestLaws.{StepByOne, made-on-top, Nested, nested, height, steps-decorated, height-decorated}
 
 -- ---- what the rules see
 
@@ -28,7 +29,7 @@ empty-map : {X Y : Type 0} (f : X → Y) (xs : List X) → is_empty (map f xs) �
 empty-map f [] = refl
 empty-map f (x ∷ xs) = refl
 
-line-mapped : {X Y : Type 0} (f : X → Y) (row : Row X) → line_of (map_row f row) ≡ line_of row
+pub line-mapped : {X Y : Type 0} (f : X → Y) (row : Row X) → line_of (map_row f row) ≡ line_of row
 line-mapped f row = ap (λ (b : Bool). record { head = row.head; level = row.level; is_open = is_header row.head && b }) (empty-map f row.body)
 
 pub lines-grown : (built : List Built) (rows : List BlockRow) → map line_of (grown built (map row_of rows)) ≡ map (λ row. line_of (row_of row)) rows
@@ -37,10 +38,6 @@ lines-grown built (row ∷ rows) =
     let first = line-mapped (tree_of built) (row_of row) in
     let others = lines-grown built rows in
     rw (first, others) refl
-
-pub steps-grown : (built : List Built) (rows : List (Row ℕ)) (level : ℕ) → StepByOne level rows → StepByOne level (grown built rows)
-steps-grown built [] level h = tt
-steps-grown built (row ∷ rows) level h = (h.0, steps-grown built rows row.level h.1)
 
 pub line-at : (built : List Built) (rows : List BlockRow) (place : ℕ) (d : BlockRow) → place < length rows → (get_or rows place d).pos.line ≡ line_at (grown built (map row_of rows)) place
 line-at built [] place d l = absurd (omega arith)
@@ -75,6 +72,22 @@ is-found-at built rows lines found fault d e f p g = record {
 
 -- ---- the tree
 
+-- a line that is deeper than the line before is one level deeper
+steps-right : (before : List Line) (rows : List (Row Tree)) → fault_behind true before (map line_of rows) ≡ None → StepByOne (level_of (nearest before)) rows
+steps-right before [] e = tt
+steps-right before (row ∷ rows) e =
+    let f = free before (line_of row) (map line_of rows) e in
+    (by_test (nat_lt (level_of (nearest before)) row.level) refl f.0.expected, steps-right (line_of row ∷ before) rows f.1)
+  where
+    begins : (block one : Bool) → (true && not (block && one)) ≡ false → one ≡ true
+    begins true true h = refl
+    begins true false h = absurd cc
+    begins false one h = absurd cc
+
+    by_test : (b : Bool) → nat_lt (level_of (nearest before)) row.level ≡ b → (b && not (opens (nearest before) && nat_eq row.level (level_of (nearest before) + 1))) ≡ false → row.level ≤ level_of (nearest before) + 1
+    by_test false g h = grind (arith, nat_tests)
+    by_test true g h = let one = begins (opens (nearest before)) (nat_eq row.level (level_of (nearest before) + 1)) h in grind (arith, nat_tests)
+
 -- the first line of a file stands at the margin
 at-margin : (rows : List (Row Tree)) → AreRight true (map line_of rows) → height rows ≤ 1
 at-margin [] h = omega arith
@@ -86,8 +99,9 @@ at-margin (row ∷ rows) h = by_test (nat_lt 0 row.level) refl
         absurd (h (record { place = 0; cause = causes.Unexpected })
         (record { front = []; line = line_of row; later = map line_of rows; lines_are = refl; place_is = refl; breaks_it = rw e refl }))
 
-pub spells : (rows : List (Row Tree)) (tree : Tree) → StepByOne 0 rows → IsRead rows tree → Spells rows tree
-spells rows tree s h =
+pub spells : (rows : List (Row Tree)) (tree : Tree) → IsRead rows tree → Spells rows tree
+spells rows tree h =
+    let s = steps-right [] rows h.none_found in
     let right = are-right true (map line_of rows) h.none_found in
     let low : height (all_decorated [] rows) ≤ 1 = omega (arith, at-margin rows right, height-decorated rows) in
     let n = nested (all_decorated [] rows) (steps-decorated [] rows 0 s) low in
@@ -105,9 +119,9 @@ tree-spelled rows tree h =
 
 -- ---- the four clauses
 
-pub tree-clause : (rows : List (Row Tree)) (result : Result Tree BlockError) → StepByOne 0 rows → IfOk result (IsRead rows) → IfOk result (Spells rows)
-tree-clause rows (Ok tree) s h = spells rows tree s h
-tree-clause rows (Err fault) s h = tt
+pub tree-clause : (rows : List (Row Tree)) (result : Result Tree BlockError) → IfOk result (IsRead rows) → IfOk result (Spells rows)
+tree-clause rows (Ok tree) h = spells rows tree h
+tree-clause rows (Err fault) h = tt
 
 none-some : {A : Type 0} (x : A) (found : Option A) → found ≡ None → found ≡ Some x → ⊥
 none-some x found e f = cc
@@ -142,5 +156,5 @@ every-fault-clause rows (Err (At at other)) h k line cause f =
 pub one-tree : (rows : List (Row Tree)) (a b : Tree) → Spells rows a → Spells rows b → a ≡ b
 one-tree rows a b h k = sym (tree-spelled rows a h) ∙ tree-spelled rows b k
 
-pub some-tree : (rows : List (Row Tree)) → StepByOne 0 rows → AreRight true (map line_of rows) → (tree : Tree) × Spells rows tree
-some-tree rows s h = (tree_by rows, spells rows (tree_by rows) s (record { none_found = none-found true (map line_of rows) h; tree_is = refl }))
+pub some-tree : (rows : List (Row Tree)) → AreRight true (map line_of rows) → (tree : Tree) × Spells rows tree
+some-tree rows h = (tree_by rows, spells rows (tree_by rows) (record { none_found = none-found true (map line_of rows) h; tree_is = refl }))

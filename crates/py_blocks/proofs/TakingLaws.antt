@@ -66,7 +66,7 @@ module _ (n : ℕ) where
       one (suc i) d l = absurd (omega arith)
 
 -- a row's trees stay
-row-kept : (old new : List Built) → Keeps old new → (row : Row ℕ) → IsMade (length old) row → map_row (tree_of new) row ≡ map_row (tree_of old) row
+pub row-kept : (old new : List Built) → Keeps old new → (row : Row ℕ) → IsMade (length old) row → map_row (tree_of new) row ≡ map_row (tree_of old) row
 row-kept old new keeps row h =
     let a = map-kept old new keeps row.nodes h.nodes in
     let b = map-kept old new keeps row.body h.body in
@@ -107,7 +107,7 @@ code-row rows front place d l e =
     let b : get_or (map row_of rows) place (row_of d) ≡ row_of (get_or rows place d) = get_or-map row_of rows place d (row_of d) l in
     rw (a, b) refl
 
-made-more : (n more : ℕ) → n ≤ more → (row : Row ℕ) → IsMade n row → IsMade more row
+pub made-more : (n more : ℕ) → n ≤ more → (row : Row ℕ) → IsMade n row → IsMade more row
 made-more n more l row h = record {
   nodes = All-weaker (λ k. k < n) (λ k. k < more) (λ k m. omega arith) row.nodes h.nodes;
   body = All-weaker (λ k. k < n) (λ k. k < more) (λ k m. omega arith) row.body h.body;

@@ -12,7 +12,7 @@ plain_text kind name = None
 
 -- the text of a plain string alone
 abbrev pub text_alone : Trees → Option (List ℕ)
-text_alone (tree node none none) = plain_text node.kind node.name
+text_alone (tree node kids none) = plain_text node.kind node.name
 text_alone trees = None
 
 -- the text of a statement that is a plain string

@@ -2,6 +2,7 @@ pub mod Building
 pub mod Docstrings
 pub mod Heads
 pub mod Looking
+pub mod RowShapes
 pub mod Rows
 pub mod Rules
 pub mod Spelling

@@ -1,6 +1,6 @@
 -- The rules of blocks: where a logical line may stand, by the kinds and levels of the lines around it. The lines before one
 -- are listed from the nearest back to the first of the file, the lines behind it to the last.
-use Rattle.std.specs.Prelude.{◌≡◌, ℕ, suc, ◌<◌, Bool, true, false, not, ◌&&◌, ◌||◌, nat_lt, nat_eq, if◌then◌else◌, List, [], ◌∷◌, ◌++◌, length, reverse, Option, Some, None, is_some}
+use Rattle.std.specs.Prelude.{◌≡◌, ℕ, suc, ◌+◌, ◌<◌, Bool, true, false, not, ◌&&◌, ◌||◌, nat_lt, nat_eq, if◌then◌else◌, List, [], ◌∷◌, ◌++◌, length, reverse, Option, Some, None, is_some}
 use Rattle.std.specs.List.{list_all}
 use Rattle.py_grammar.specs.declared.head.Head.{Head}
 use Rattle.py_grammar.specs.declared.head.Head.TheVariants as heads
@@ -77,9 +77,13 @@ decorates (Some line) = is_decorator line.head
 abbrev pub is_deeper : Around → Line → Bool
 is_deeper around line = nat_lt (level_of around.previous) line.level
 
--- a line that is deeper, though no block was opened
+-- it is one level deeper, and the line before opens a block
+abbrev pub begins_block : Around → Line → Bool
+begins_block around line = opens around.previous && nat_eq line.level (level_of around.previous + 1)
+
+-- a line that is deeper, though it begins no block
 abbrev pub is_unexpected : Around → Line → Bool
-is_unexpected around line = is_deeper around line && not (opens around.previous)
+is_unexpected around line = is_deeper around line && not (begins_block around line)
 
 -- a block was opened, and this line is not in it
 abbrev pub misses_block : Around → Line → Bool

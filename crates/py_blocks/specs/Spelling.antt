@@ -17,11 +17,6 @@ pub record Spells (rows : List (Row Tree)) (tree : Tree) : Type 0 where
   pub right : AreRight true (map line_of rows)
   pub tree_is : tree ≡ module_over (made_by lines)
 
--- a line that is deeper than the line before, of that level, is one level deeper
-abbrev pub StepByOne : {X : Type 0} → ℕ → List (Row X) → Type 0
-StepByOne level [] = Unit {0}
-StepByOne level (row ∷ rows) = (row.level ≤ level + 1) × StepByOne row.level rows
-
 -- the line at which the row of a number begins
 abbrev pub line_at : {X : Type 0} → List (Row X) → ℕ → ℕ
 line_at [] place = 0

@@ -1,9 +1,11 @@
 // The laws of trees and faults.
-ghost use Rattle.std.specs.Prelude.{◌≡◌, List, true, map};
+ghost use Rattle.std.specs.Prelude.{◌≡◌, List, true, map, All};
+ghost use Rattle.tree_nodes.specs.Shaped.{IsShaped};
 ghost use Rattle.tree_nodes.specs.Trees.{Tree};
+ghost use Rattle.py_blocks.specs.RowShapes.{IsRowShaped};
 ghost use Rattle.py_blocks.specs.Rows.{Row, line_of};
 ghost use Rattle.py_blocks.specs.Rules.{AreRight};
-ghost use Rattle.py_blocks.specs.Spelling.{Spells, StepByOne};
+ghost use Rattle.py_blocks.specs.Spelling.{Spells};
 
 /// Rows spell one tree at most.
 pub fn one_tree()
@@ -12,5 +14,10 @@ pub fn one_tree()
 
 /// Rows spell a tree where no line stands against a rule of blocks.
 pub fn some_tree()
-    ensures { (rows : List (Row Tree)) → StepByOne 0 rows → AreRight true (map line_of rows) → (tree : Tree) × Spells rows tree }
+    ensures { (rows : List (Row Tree)) → AreRight true (map line_of rows) → (tree : Tree) × Spells rows tree }
+{}
+
+/// The tree of rows in shape is in shape.
+pub fn trees_are_in_shape()
+    ensures { (rows : List (Row Tree)) (tree : Tree) → All IsRowShaped rows → Spells rows tree → IsShaped tree }
 {}

@@ -15,7 +15,7 @@ mod taking;
 mod waiting;
 
 pub use fault::{BlockCause, BlockError, BlockFault};
-pub use laws::{one_tree, some_tree};
+pub use laws::{one_tree, some_tree, trees_are_in_shape};
 pub use line::Line;
 pub use parse::{line_of, parse_rows};
 pub use row::BlockRow;

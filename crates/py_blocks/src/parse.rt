@@ -3,7 +3,7 @@ ghost use Rattle.std.specs.Prelude.{◌≡◌, ℕ, ◌<◌, length, map, All, I
 ghost use Rattle.tree_nodes.specs.Trees.{Tree};
 ghost use Rattle.py_blocks.specs.declared.fault.BlockCause.{BlockCause};
 ghost use Rattle.py_blocks.specs.Rows.{row_of, line_of};
-ghost use Rattle.py_blocks.specs.Spelling.{Spells, StepByOne, IsFirstAt, OnFault, GivesOnly, FaultsOnly, line_at};
+ghost use Rattle.py_blocks.specs.Spelling.{Spells, IsFirstAt, OnFault, GivesOnly, FaultsOnly, line_at};
 ghost use Rattle.py_blocks.specs.Building.{IsMade};
 ghost use Rattle.py_blocks.specs.Taking.{grown, IsRead, IsFoundAt};
 
@@ -22,8 +22,7 @@ pub fn parse_rows(
     builder: TreeBuilder,
     rows: &[BlockRow],
 ) -> Result<Tree, BlockError>
-    requires made { All (IsMade (length builder)) (map row_of rows.now) }
-    requires steps { StepByOne 0 (map row_of rows.now) }
+    requires { All (IsMade (length builder)) (map row_of rows.now) }
     // What is given is what the rows spell.
     ensures tree { IfOk result (Spells (grown builder (map row_of rows.now))) }
     // Whatever they spell is given, unless memory runs out.

@@ -1,5 +1,5 @@
 // The first line that stands against a rule of blocks.
-ghost use Rattle.std.specs.Prelude.{◌≡◌, ◌&&◌, ◌||◌, not, nat_lt, nat_eq, ◌<◌, length, IfOk, IfSome, MatchOption};
+ghost use Rattle.std.specs.Prelude.{◌≡◌, ◌+◌, ◌&&◌, ◌||◌, not, nat_lt, nat_eq, ◌<◌, length, IfOk, IfSome, MatchOption};
 ghost use Rattle.py_blocks.specs.Rules.{AreRight, IsFirstFault};
 ghost use Rattle.std.specs.List.{list_all};
 ghost use Rattle.py_blocks.specs.Heads as heads;
@@ -93,7 +93,19 @@ fn is_deeper(around: Around, line: Line) -> bool
 fn is_unexpected(around: Around, line: Line) -> bool
     ensures { result ≡ spec.is_unexpected around line }
 {
-    is_deeper(around, line) && !opens(around.previous)
+    is_deeper(around, line) && !begins_block(around, line)
+}
+
+fn begins_block(around: Around, line: Line) -> bool
+    ensures { result ≡ spec.begins_block around line }
+{
+    opens(around.previous) && is_one_deeper(level_of(around.previous), line.level)
+}
+
+fn is_one_deeper(before: u32, level: u32) -> bool
+    ensures { result ≡ nat_eq level (before + 1) }
+{
+    level > 0 && level - 1 == before
 }
 
 fn needs_block(is_whole: bool, around: Around, line: Line, later: &[Line]) -> bool

@@ -1,6 +1,5 @@
 ghost use Rattle.std.specs.Prelude.{◌<◌, ◌↔◌, ◌≤◌, ◌+◌, length, map, IsTrue, All, IfSome};
 ghost use Rattle.py_blocks.specs.Rows.{row_of};
-ghost use Rattle.py_blocks.specs.Spelling.{StepByOne};
 ghost use Rattle.py_blocks.specs.Building.{IsMade};
 
 use crate::{BlockCause, BlockError, BlockRow, Line, first_fault, parse_rows};
@@ -13,7 +12,7 @@ use tree_nodes::{Kind, Tree, TreeBuilder};
 
 // Lines in short, with the first fault: a word a line, with a dot for each level. A header has a `:` where it opens a block, and
 // a `;` where a statement stands behind it.
-const SHAPES: [(&str, Option<(usize, BlockCause)>); 91] = [
+const SHAPES: [(&str, Option<(usize, BlockCause)>); 92] = [
     ("", None),
     ("x", None),
     ("if: .x", None),
@@ -55,6 +54,7 @@ const SHAPES: [(&str, Option<(usize, BlockCause)>); 91] = [
     ("fin;", Some((0, BlockCause::Follows))),
     ("case: .x", Some((0, BlockCause::Follows))),
     (".x", Some((0, BlockCause::Unexpected))),
+    ("if: ..x", Some((1, BlockCause::Unexpected))),
     ("x .x", Some((1, BlockCause::Unexpected))),
     ("if; .x", Some((1, BlockCause::Unexpected))),
     ("if: .x .else;", Some((2, BlockCause::Follows))),
@@ -183,7 +183,7 @@ fn each_shape_has_its_first_fault(rt: HostRuntime) -> Result<(), Fail> {
         assert_eq!(rt; found(rt.alloc(), shape)?, *fault, "{shape}");
         seen = seen.saturating_add(1);
     }
-    assert_eq!(rt; seen, 91);
+    assert_eq!(rt; seen, 92);
     Ok(())
 }
 
@@ -220,22 +220,7 @@ fn rows_are_made(rows: &[BlockRow], count: usize) -> bool
     are_made(rows, count)
 }
 
-fn step_by_one(rows: &[BlockRow]) -> bool
-    ensures { IsTrue result → StepByOne 0 (map row_of rows.now) }
-{
-    let mut level = 0u32;
-    let mut rest = rows;
-    while let [row, later @ ..] = rest {
-        if row.level > level.saturating_add(1) {
-            return false;
-        }
-        level = row.level;
-        rest = later;
-    }
-    true
-}
-
-// The tree of rows whose numbers and levels are right.
+// The tree of rows whose numbers are right.
 fn parsed(
     rt: &impl Abort,
     alloc: Global,
@@ -244,8 +229,6 @@ fn parsed(
 ) -> Result<Result<Tree, BlockError>, Fail> {
     let made = rows_are_made(rows, builder.rows());
     assert!(rt; made);
-    let steps = step_by_one(rows);
-    assert!(rt; steps);
     Ok(parse_rows(alloc, builder, rows))
 }
 

@@ -1,11 +1,8 @@
-use Rattle.std.proofs.Common.{map}
-use Rattle.py_blocks.specs.Rows.{row_of}
-use Rattle.py_blocks.specs.Taking.{grown}
-use Rattle.py_blocks.proofs.ParseLaws.{steps-grown, tree-clause, every-clause, fault-clause, every-fault-clause}
+use Rattle.py_blocks.proofs.ParseLaws.{tree-clause, every-clause, fault-clause, every-fault-clause}
 use Rattle.py_blocks.proofs.parse.parse_rows.Goals as goal
 
 pub returns-clause-tree : goal.returns-clause-tree
-returns-clause-tree c = tree-clause _ c.read_rows.result (steps-grown c.args.builder (map row_of c.args.rows.now) 0 c.requires.steps) c.read_rows.ensures.tree
+returns-clause-tree c = tree-clause _ c.read_rows.result c.read_rows.ensures.tree
 
 pub returns-clause-every : goal.returns-clause-every
 returns-clause-every c = every-clause _ c.read_rows.result c.read_rows.ensures.tree c.read_rows.ensures.fault

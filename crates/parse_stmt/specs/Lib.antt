@@ -1,0 +1,5 @@
+pub mod Answers
+pub mod Places
+pub mod Rows
+pub mod Spelling
+pub mod Reading
