@@ -1,6 +1,6 @@
 -- The first line, and the lines of what follows its end.
-use Rattle.std.proofs.Common.{◌≡◌, ℕ, ◌+◌, Bool, true, false, cond, eqb, List, [], ◌∷◌, take, drop, length, suc, refl, sym, ap, ◌∙◌, arith, rules, ◌<◌, ◌||◌, ◌&&◌, not}
-use Rattle.std.specs.List.{position_or_len, prefix_len, onto_first}
+use Rattle.std.proofs.Common.{◌≡◌, ℕ, ◌+◌, Bool, true, false, cond, eqb, List, [], ◌∷◌, take, drop, length, suc, refl, ap, arith, ◌<◌}
+use Rattle.std.specs.List.{position_or_len, onto_first}
 use Rattle.std.proofs.lemmas.Bool.Decides.{nat_tests}
 use Rattle.check_basic.specs.Lines.{lines_of, is_line_end, after_end, begins_with_lf}
 

@@ -1,5 +1,5 @@
 -- The physical lines of a source: they end with LF, CR LF or CR, and a byte order mark at the start is no part of them.
-use Rattle.std.specs.Prelude.{ℕ, ◌-◌, List, [], ◌∷◌, Bool, true, false, if◌then◌else◌, ◌==◌, ◌||◌, ◌&&◌, nat_lt, nat_le, nat_eq, length, take, drop, count_by, slice_index}
+use Rattle.std.specs.Prelude.{ℕ, ◌-◌, List, [], ◌∷◌, Bool, false, if◌then◌else◌, ◌==◌, ◌||◌, ◌&&◌, nat_lt, nat_le, nat_eq, length, drop, count_by, slice_index}
 use Rattle.std.specs.List.{onto_first, starts_with}
 
 abbrev pub byte_order_mark : List ℕ

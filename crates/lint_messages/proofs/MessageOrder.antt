@@ -1,5 +1,5 @@
 -- The order of messages is total, and tells all messages apart.
-use Rattle.std.proofs.Common.{◌≡◌, ℕ, ◌+◌, ◌<◌, Bool, true, List, map, [], ◌∷◌, Option, None, Some, refl, sym, ap, subst, ◌∙◌, arith, rules, find}
+use Rattle.std.proofs.Common.{◌≡◌, ℕ, ◌<◌, List, map, [], ◌∷◌, Option, None, Some, refl, sym, ap, subst, ◌∙◌, arith, rules, find}
 use Rattle.std.specs.Str.{bytes_eq}
 use Rattle.std.specs.Cmp.{IsTotalOrder, ranks}
 use Rattle.std.specs.Cmp.Rules.{comparing}
@@ -9,7 +9,7 @@ use Rattle.std.specs.declared.cmp.Ordering.TheVariants.{Less, Equal, Greater}
 use Rattle.std.specs.Ordering.{nat_cmp, ordering_then, MatchOrdering}
 use Rattle.lint_values.specs.declared.place.NodeId.{NodeId}
 use Rattle.lint_messages.specs.declared.code.Code.{Code}
-use Rattle.lint_messages.specs.declared.code.Code.TheVariants.{LineTooLong, TooManyLines, TrailingWhitespace, MissingFinalNewline, SyntaxError, Fatal, ParseError}
+use Rattle.lint_messages.specs.declared.code.Code.TheVariants.{MissingModuleDocstring, MissingClassDocstring, MissingFunctionDocstring, LineTooLong, TooManyLines, TrailingWhitespace, MissingFinalNewline, MultipleStatements, MultipleImports, SyntaxError, Fatal, ParseError, UnnecessaryPass, UnnecessarySemicolon}
 use Rattle.lint_messages.specs.declared.code.TheConstants.{ALL_CODES}
 use Rattle.lint_messages.specs.declared.message.Message.{Message}
 use Rattle.lint_messages.specs.Codes.{letters}
@@ -53,13 +53,20 @@ abbrev code_of : List ℕ → Option Code
 code_of text = find (λ code. bytes_eq (letters code) text) ALL_CODES
 
 code_of_letters : (code : Code) → code_of (letters code) ≡ Some code
+code_of_letters MissingModuleDocstring = refl
+code_of_letters MissingClassDocstring = refl
+code_of_letters MissingFunctionDocstring = refl
 code_of_letters LineTooLong = refl
 code_of_letters TooManyLines = refl
 code_of_letters TrailingWhitespace = refl
 code_of_letters MissingFinalNewline = refl
+code_of_letters MultipleStatements = refl
+code_of_letters MultipleImports = refl
 code_of_letters SyntaxError = refl
 code_of_letters Fatal = refl
 code_of_letters ParseError = refl
+code_of_letters UnnecessaryPass = refl
+code_of_letters UnnecessarySemicolon = refl
 
 codes_tied : (a b : Code) → letters a ≡ letters b → a ≡ b
 codes_tied a b e =

@@ -1,27 +1,41 @@
 -- The letters, symbol, category and exit bit of each message, as pylint's reference has them.
 use Rattle.std.specs.Prelude.{ℕ, List, codes, if◌then◌else◌, ◌==◌, slice_index}
 use Rattle.lint_messages.specs.declared.code.Code.{Code}
-use Rattle.lint_messages.specs.declared.code.Code.TheVariants.{LineTooLong, TooManyLines, TrailingWhitespace, MissingFinalNewline, SyntaxError, Fatal, ParseError}
+use Rattle.lint_messages.specs.declared.code.Code.TheVariants.{MissingModuleDocstring, MissingClassDocstring, MissingFunctionDocstring, LineTooLong, TooManyLines, TrailingWhitespace, MissingFinalNewline, MultipleStatements, MultipleImports, SyntaxError, Fatal, ParseError, UnnecessaryPass, UnnecessarySemicolon}
 
 -- the category's letter and four digits
 abbrev pub letters : Code → List ℕ
+letters MissingModuleDocstring = codes "C0114"
+letters MissingClassDocstring = codes "C0115"
+letters MissingFunctionDocstring = codes "C0116"
 letters LineTooLong = codes "C0301"
 letters TooManyLines = codes "C0302"
 letters TrailingWhitespace = codes "C0303"
 letters MissingFinalNewline = codes "C0304"
+letters MultipleStatements = codes "C0321"
+letters MultipleImports = codes "C0410"
 letters SyntaxError = codes "E0001"
 letters Fatal = codes "F0001"
 letters ParseError = codes "F0010"
+letters UnnecessaryPass = codes "W0107"
+letters UnnecessarySemicolon = codes "W0301"
 
 -- the name in words
 abbrev pub symbol : Code → List ℕ
+symbol MissingModuleDocstring = codes "missing-module-docstring"
+symbol MissingClassDocstring = codes "missing-class-docstring"
+symbol MissingFunctionDocstring = codes "missing-function-docstring"
 symbol LineTooLong = codes "line-too-long"
 symbol TooManyLines = codes "too-many-lines"
 symbol TrailingWhitespace = codes "trailing-whitespace"
 symbol MissingFinalNewline = codes "missing-final-newline"
+symbol MultipleStatements = codes "multiple-statements"
+symbol MultipleImports = codes "multiple-imports"
 symbol SyntaxError = codes "syntax-error"
 symbol Fatal = codes "fatal"
 symbol ParseError = codes "parse-error"
+symbol UnnecessaryPass = codes "unnecessary-pass"
+symbol UnnecessarySemicolon = codes "unnecessary-semicolon"
 
 -- the category is the first of the letters
 abbrev pub category : Code → ℕ

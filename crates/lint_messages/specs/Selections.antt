@@ -1,6 +1,6 @@
 -- What a message name in an option or a pragma names.
 use Rattle.std.specs.Prelude.{ℕ, List, [], ◌∷◌, Bool, false, not, ◌&&◌, ◌||◌, ◌==◌, if◌then◌else◌, nat_le, length, codes, find, Option, None, Some}
-use Rattle.std.specs.List.{list_all, list_any}
+use Rattle.std.specs.List.{list_all}
 use Rattle.std.specs.Str.{bytes_eq}
 use Rattle.lint_messages.specs.declared.code.Code.{Code}
 use Rattle.lint_messages.specs.declared.code.TheConstants.{ALL_CODES}

@@ -1,18 +1,25 @@
 -- The text of each message: words, with an argument between any two of them.
 use Rattle.std.specs.Prelude.{ℕ, List, [], ◌∷◌, ◌++◌, drop, codes}
 use Rattle.lint_messages.specs.declared.code.Code.{Code}
-use Rattle.lint_messages.specs.declared.code.Code.TheVariants.{LineTooLong, TooManyLines, TrailingWhitespace, MissingFinalNewline, SyntaxError, Fatal, ParseError}
+use Rattle.lint_messages.specs.declared.code.Code.TheVariants.{MissingModuleDocstring, MissingClassDocstring, MissingFunctionDocstring, LineTooLong, TooManyLines, TrailingWhitespace, MissingFinalNewline, MultipleStatements, MultipleImports, SyntaxError, Fatal, ParseError, UnnecessaryPass, UnnecessarySemicolon}
 use Rattle.lint_messages.specs.declared.message.Message.{Message}
 
 -- the words of a text
 abbrev pub template : Code → List (List ℕ)
+template MissingModuleDocstring = codes "Missing module docstring" ∷ []
+template MissingClassDocstring = codes "Missing class docstring" ∷ []
+template MissingFunctionDocstring = codes "Missing function or method docstring" ∷ []
 template LineTooLong = codes "Line too long (" ∷ codes "/" ∷ codes ")" ∷ []
 template TooManyLines = codes "Too many lines in module (" ∷ codes "/" ∷ codes ")" ∷ []
 template TrailingWhitespace = codes "Trailing whitespace" ∷ []
 template MissingFinalNewline = codes "Final newline missing" ∷ []
+template MultipleStatements = codes "More than one statement on a single line" ∷ []
+template MultipleImports = codes "Multiple imports on one line (" ∷ codes ")" ∷ []
 template SyntaxError = codes "Parsing failed: '" ∷ codes " (line " ∷ codes ")'" ∷ []
 template Fatal = codes "No module named " ∷ [] ∷ []
 template ParseError = codes "error while code parsing: " ∷ [] ∷ []
+template UnnecessaryPass = codes "Unnecessary pass statement" ∷ []
+template UnnecessarySemicolon = codes "Unnecessary semicolon" ∷ []
 
 -- the next argument: a missing one counts as empty
 abbrev pub argument : List (List ℕ) → List ℕ

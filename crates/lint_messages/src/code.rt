@@ -5,24 +5,38 @@ ghost use Rattle.lint_messages.specs.Codes.{letters, symbol, category, bit};
 /// A code, one for each message. The variants stand in the order of their letters, and are ordered so.
 #[derive(Clone, Copy, Debug, PartialEq, Eq, PartialOrd, Ord)]
 pub enum Code {
+    MissingModuleDocstring,
+    MissingClassDocstring,
+    MissingFunctionDocstring,
     LineTooLong,
     TooManyLines,
     TrailingWhitespace,
     MissingFinalNewline,
+    MultipleStatements,
+    MultipleImports,
     SyntaxError,
     Fatal,
     ParseError,
+    UnnecessaryPass,
+    UnnecessarySemicolon,
 }
 
 /// All codes, in their order.
-pub const ALL_CODES: [Code; 7] = [
+pub const ALL_CODES: [Code; 14] = [
+    Code::MissingModuleDocstring,
+    Code::MissingClassDocstring,
+    Code::MissingFunctionDocstring,
     Code::LineTooLong,
     Code::TooManyLines,
     Code::TrailingWhitespace,
     Code::MissingFinalNewline,
+    Code::MultipleStatements,
+    Code::MultipleImports,
     Code::SyntaxError,
     Code::Fatal,
     Code::ParseError,
+    Code::UnnecessaryPass,
+    Code::UnnecessarySemicolon,
 ];
 
 impl Code {
@@ -31,13 +45,20 @@ impl Code {
         ensures { result.now ≡ letters self }
     {
         match self {
+            Code::MissingModuleDocstring => "C0114",
+            Code::MissingClassDocstring => "C0115",
+            Code::MissingFunctionDocstring => "C0116",
             Code::LineTooLong => "C0301",
             Code::TooManyLines => "C0302",
             Code::TrailingWhitespace => "C0303",
             Code::MissingFinalNewline => "C0304",
+            Code::MultipleStatements => "C0321",
+            Code::MultipleImports => "C0410",
             Code::SyntaxError => "E0001",
             Code::Fatal => "F0001",
             Code::ParseError => "F0010",
+            Code::UnnecessaryPass => "W0107",
+            Code::UnnecessarySemicolon => "W0301",
         }
     }
 
@@ -46,13 +67,20 @@ impl Code {
         ensures { result.now ≡ symbol self }
     {
         match self {
+            Code::MissingModuleDocstring => "missing-module-docstring",
+            Code::MissingClassDocstring => "missing-class-docstring",
+            Code::MissingFunctionDocstring => "missing-function-docstring",
             Code::LineTooLong => "line-too-long",
             Code::TooManyLines => "too-many-lines",
             Code::TrailingWhitespace => "trailing-whitespace",
             Code::MissingFinalNewline => "missing-final-newline",
+            Code::MultipleStatements => "multiple-statements",
+            Code::MultipleImports => "multiple-imports",
             Code::SyntaxError => "syntax-error",
             Code::Fatal => "fatal",
             Code::ParseError => "parse-error",
+            Code::UnnecessaryPass => "unnecessary-pass",
+            Code::UnnecessarySemicolon => "unnecessary-semicolon",
         }
     }
 
@@ -61,12 +89,18 @@ impl Code {
         ensures { result ≡ category self }
     {
         match self {
-            Code::LineTooLong
+            Code::MissingModuleDocstring
+            | Code::MissingClassDocstring
+            | Code::MissingFunctionDocstring
+            | Code::LineTooLong
             | Code::TooManyLines
             | Code::TrailingWhitespace
-            | Code::MissingFinalNewline => 'C',
+            | Code::MissingFinalNewline
+            | Code::MultipleStatements
+            | Code::MultipleImports => 'C',
             Code::SyntaxError => 'E',
             Code::Fatal | Code::ParseError => 'F',
+            Code::UnnecessaryPass | Code::UnnecessarySemicolon => 'W',
         }
     }
 

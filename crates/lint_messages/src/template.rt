@@ -12,13 +12,20 @@ fn template(code: Code) -> &'static [&'static str]
     ensures some { 0 < length result.now }
 {
     match code {
+        Code::MissingModuleDocstring => &["Missing module docstring"],
+        Code::MissingClassDocstring => &["Missing class docstring"],
+        Code::MissingFunctionDocstring => &["Missing function or method docstring"],
         Code::LineTooLong => &["Line too long (", "/", ")"],
         Code::TooManyLines => &["Too many lines in module (", "/", ")"],
         Code::TrailingWhitespace => &["Trailing whitespace"],
         Code::MissingFinalNewline => &["Final newline missing"],
+        Code::MultipleStatements => &["More than one statement on a single line"],
+        Code::MultipleImports => &["Multiple imports on one line (", ")"],
         Code::SyntaxError => &["Parsing failed: '", " (line ", ")'"],
         Code::Fatal => &["No module named ", ""],
         Code::ParseError => &["error while code parsing: ", ""],
+        Code::UnnecessaryPass => &["Unnecessary pass statement"],
+        Code::UnnecessarySemicolon => &["Unnecessary semicolon"],
     }
 }
 

@@ -1,2 +1,3 @@
 pub mod Report
+pub mod Score
 pub mod Usage

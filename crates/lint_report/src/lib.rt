@@ -1,12 +1,21 @@
-//! The report of what was found, the exit status, and how a command ends.
+//! The report of what was found, the score, the exit status, and how a command ends.
 #![tactic(auto)]
 
 mod findings;
 mod outcome;
+mod rating;
 mod report;
+mod scores;
+mod statuses;
 mod usage;
 
 pub use findings::Findings;
 pub use outcome::{Answer, OptionsRead, Outcome, Whole};
+pub use rating::scored_text;
 pub use report::{ReportLines, status, text};
+pub use scores::{Quotient, exact_score, score};
+pub use statuses::exit_status;
 pub use usage::usage_text;
+
+#[cfg(test)]
+mod tests;

@@ -45,10 +45,14 @@ fn first_other(
 }
 
 const SWITCHES: [(&str, &str, &str); 20] = [
-    ("", "", "C0301 C0302 C0303 C0304 E0001 F0001 F0010"),
+    (
+        "",
+        "",
+        "C0114 C0115 C0116 C0301 C0302 C0303 C0304 C0321 C0410 E0001 F0001 F0010 W0107 W0301",
+    ),
     ("", "--disable=all", ""),
-    ("", "--disable=C", "E0001 F0001 F0010"),
-    ("", "-dC|-eC0303", "C0303 E0001 F0001 F0010"),
+    ("", "--disable=C", "E0001 F0001 F0010 W0107 W0301"),
+    ("", "-dC|-eC0303", "C0303 E0001 F0001 F0010 W0107 W0301"),
     ("", "--disable=all|--enable=C0301", "C0301"),
     ("", "--enable=C0301|--disable=all", "C0301"),
     ("", "--enable=C0301|--disable=C0301|--disable=all", ""),
@@ -56,7 +60,7 @@ const SWITCHES: [(&str, &str, &str); 20] = [
     (
         "",
         "--disable=all|--enable=all",
-        "C0301 C0302 C0303 C0304 E0001 F0001 F0010",
+        "C0114 C0115 C0116 C0301 C0302 C0303 C0304 C0321 C0410 E0001 F0001 F0010 W0107 W0301",
     ),
     ("", "--enable=all|--disable=all", ""),
     ("", "--disable=all,C|--enable=E,F", "E0001 F0001 F0010"),
@@ -64,17 +68,17 @@ const SWITCHES: [(&str, &str, &str); 20] = [
     (
         "",
         "--disable= trailing-whitespace , C0304",
-        "C0301 C0302 E0001 F0001 F0010",
+        "C0114 C0115 C0116 C0301 C0302 C0321 C0410 E0001 F0001 F0010 W0107 W0301",
     ),
     (
         "",
         "--disable=no-such-message,X9999,I,W,R",
-        "C0301 C0302 C0303 C0304 E0001 F0001 F0010",
+        "C0114 C0115 C0116 C0301 C0302 C0303 C0304 C0321 C0410 E0001 F0001 F0010",
     ),
     ("--disable=all", "", ""),
     ("--disable=all", "--enable=E", "E0001"),
     ("--enable=E", "--disable=all", ""),
-    ("--disable=C,F", "--enable=C0302", "C0302 E0001"),
+    ("--disable=C,F", "--enable=C0302", "C0302 E0001 W0107 W0301"),
     ("--disable=all|--enable=F", "--disable=F0001", "F0010"),
     ("--enable=C0301|--disable=all", "-eE|-dC0301", "E0001"),
 ];

@@ -1,4 +1,4 @@
-use Rattle.std.proofs.Common.{arith, rules}
+use Rattle.std.proofs.Common.{arith}
 use Rattle.std.specs.Option.{option_copied}
 use Rattle.lint_report.proofs.Reports.{report_more}
 use Rattle.lint_report.proofs.report.report_lines.Goals as goal
