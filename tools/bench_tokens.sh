@@ -1,6 +1,6 @@
 #!/usr/bin/env bash
 # Times the program on sources of 1, 2 and 4 MiB: Python's own library put together, one-character tokens, and names
-# that are not ASCII. Prints seconds and peak memory. No proof speaks of either.
+# that are not ASCII. Prints the time of the processor and peak memory. No proof speaks of either.
 root=$(dirname "$(dirname "$(readlink -f "$0")")")
 program=$root/crates/pylint/out/pylint
 [ -x "$program" ] || { echo "skipped: the program is missing"; exit 0; }
@@ -29,7 +29,7 @@ cd "$work" || exit 1
 for kind in library operators names; do
   for mib in 1 2 4; do
     bytes=$(stat -c %s "$kind$mib.py")
-    /usr/bin/time -f "%e s, %M KB" -o time "$program" "$kind$mib.py" >out
+    /usr/bin/time -f "%U s of the processor and %S s of the system, %M KB" -o time "$program" "$kind$mib.py" >out
     echo "$kind $mib MiB ($bytes bytes): $(tail -n 1 time), $(wc -l <out) lines of report, first: $(sed -n 2p out | cut -c1-90)"
   done
 done

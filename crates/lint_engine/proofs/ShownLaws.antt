@@ -1,11 +1,10 @@
--- The messages of a reading are there, and are the only ones.
-use Rattle.std.proofs.Common.{◌≡◌, ◌<◌, ◌≤◌, ◌+◌, ℕ, List, [], ◌∷◌, ◌++◌, length, drop, get_or, refl, sym, ap, subst, ◌∙◌, append_assoc}
+-- What is shown of a reading is there, and nothing else is.
+use Rattle.std.proofs.Common.{◌≡◌, ◌<◌, ◌≤◌, ◌+◌, ℕ, List, [], ◌∷◌, ◌++◌, length, drop, get_or, refl, sym, ap, subst, ◌∙◌, append_assoc, arith}
 use Rattle.std.specs.Prelude.{Result, Ok, Err}
 use Rattle.std.specs.List.{AllByRecursion}
 use Rattle.std.proofs.lemmas.List.{drop_more, drop_all, append-nil}
 use Rattle.lint_values.specs.declared.place.FileId.{FileId}
 use Rattle.lint_values.specs.declared.place.Pos.{Pos}
-use Rattle.lint_messages.specs.declared.message.Message.{Message}
 use Rattle.options.specs.declared.line.Line.{Line}
 use Rattle.options.specs.declared.settings.Options.{Options}
 use Rattle.options.specs.declared.usage.UsageFault.{UsageFault}
@@ -18,52 +17,105 @@ use Rattle.py_token.specs.declared.fault.TokenCause.{TokenCause}
 use Rattle.py_token.specs.declared.fault.TokenFault.TheVariants.{At}
 use Rattle.py_token.specs.FirstFault.{IsFirstFault}
 use Rattle.py_token.specs.Tokenized.{Tokenized, IsTokenized}
-use Rattle.py_token.proofs.OneAnswer.{every_fault_from}
-use Rattle.check_basic.specs.LineRules.{source_messages}
+use Rattle.py_token.proofs.OneAnswer.{every_from, every_fault_from}
+use Rattle.tree_nodes.specs.Trees.{Tree}
+use Rattle.parse_stmt.specs.declared.fault.SyntaxCause.{SyntaxCause}
+use Rattle.parse_stmt.specs.Spelling.{Spells, IsFault}
+use Rattle.parse_stmt.proofs.OneAnswer.{tree-one, fault-one, tree-or-fault}
+use Rattle.lint_report.specs.declared.findings.Findings.{Findings}
 use Rattle.lint_report.specs.declared.outcome.Whole.{Whole}
-use Rattle.lint_engine.specs.Shown.{syntax_error, IsSourceShown, faulty, read, IsEntryShown, InTwo, IsShownFrom, IsShown}
+use Rattle.lint_engine.specs.Shown.{reason_of, syntax_reason, syntax_error, head_of, nothing, alone, together, found_in, IsSourceShown, faulty, formless, read, IsEntryShown, InTwo, IsShownFrom, IsShown}
 use Rattle.lint_engine.specs.Output.{IsShownBy}
 use Rattle.lint_engine.specs.Command.{IsDetermined}
 
-pub faulty_source : (options : Options) (file : FileId) (bytes : List ℕ) (pos : Pos) (cause : TokenCause) (message : Message) (messages : List Message) → IsFirstFault bytes pos cause → message ≡ syntax_error file pos cause → messages ≡ message ∷ [] → IsSourceShown options file bytes messages
-faulty_source options file bytes pos cause message messages first is one = faulty pos cause first (one ∙ ap (λ m. m ∷ []) is)
+-- ---- one source
 
-pub read_source : (options : Options) (file : FileId) (bytes : List ℕ) (tokens : Tokenized) (messages : List Message) → IsTokenized bytes tokens → messages ≡ source_messages options file bytes → IsSourceShown options file bytes messages
-read_source options file bytes tokens messages is e = read tokens is e
+pub faulty_source : (options : Options) (file : FileId) (bytes : List ℕ) (pos : Pos) (cause : TokenCause) (found : Findings) → IsFirstFault bytes pos cause → found ≡ alone (syntax_error file pos (reason_of cause)) → IsSourceShown options file bytes found
+faulty_source options file bytes pos cause found first is = faulty pos cause first is
 
--- these messages go on with those of the entries that are left
-pub record GoesOn (options : Options) (reading : List Listed) (i : ℕ) (messages : List Message) : Type 0 where
-  pub told : (rest : List Message) → IsShownFrom options i (drop i reading) rest → IsShown options reading (messages ++ rest)
+pub formless_source : (options : Options) (file : FileId) (bytes : List ℕ) (tokens : Tokenized) (line : ℕ) (cause : SyntaxCause) (found : Findings) → IsTokenized bytes tokens → IsFault tokens line cause
+    → found ≡ alone (syntax_error file (head_of line) (syntax_reason cause)) → IsSourceShown options file bytes found
+formless_source options file bytes tokens line cause found tokenized fault is = formless tokens line cause tokenized fault is
 
-pub one_more : (options : Options) (reading : List Listed) (i : ℕ) (listed : Listed) (before found now : List Message) → i < length reading → listed ≡ get_or reading i listed → now ≡ before ++ found → IsEntryShown options (record { 0 = i }) listed.path listed.entry found → GoesOn options reading i before → GoesOn options reading (i + 1) now
+pub read_source : (options : Options) (file : FileId) (bytes : List ℕ) (tokens : Tokenized) (tree : Tree) (found : Findings) → IsTokenized bytes tokens → Spells tokens tree → found ≡ found_in options file bytes tokens tree → IsSourceShown options file bytes found
+read_source options file bytes tokens tree found is spelled e = read tokens tree is spelled e
+
+-- ---- parts behind each other
+
+together_nothing : (a : Findings) → together a nothing ≡ a
+together_nothing a = (λ i. record { messages = append-nil a.messages i; statements = add_nothing a.statements i })
+  where
+    add_nothing : (n : ℕ) → n + 0 ≡ n
+    add_nothing n = omega arith
+
+together_assoc : (a b c : Findings) → together (together a b) c ≡ together a (together b c)
+together_assoc a b c = (λ i. record { messages = append_assoc a.messages b.messages c.messages i; statements = add_assoc a.statements b.statements c.statements i })
+  where
+    add_assoc : (x y z : ℕ) → (x + y) + z ≡ x + (y + z)
+    add_assoc x y z = omega arith
+
+nothing_together : (a : Findings) → a ≡ together nothing a
+nothing_together a = (λ i. record { messages = a.messages; statements = zero_add a.statements i })
+  where
+    zero_add : (n : ℕ) → n ≡ 0 + n
+    zero_add n = omega arith
+
+-- what is shown goes on with that of the entries that are left
+pub record GoesOn (options : Options) (reading : List Listed) (i : ℕ) (found : Findings) : Type 0 where
+  pub told : (rest : Findings) → IsShownFrom options i (drop i reading) rest → IsShown options reading (together found rest)
+
+pub none_yet : (options : Options) (reading : List Listed) → GoesOn options reading 0 nothing
+none_yet options reading = record { told = λ rest shown. subst (IsShown options reading) (nothing_together rest) shown }
+
+pub one_more : (options : Options) (reading : List Listed) (i : ℕ) (listed : Listed) (before found now : Findings) → i < length reading → listed ≡ get_or reading i listed → now ≡ together before found → IsEntryShown options (record { 0 = i }) listed.path listed.entry found → GoesOn options reading i before → GoesOn options reading (i + 1) now
 one_more options reading i listed before found now lt at grown shown goes = record {
   told = λ rest left.
       let split : drop i reading ≡ listed ∷ drop (i + 1) reading = drop_more reading i listed lt ∙ ap (λ l. l ∷ drop (i + 1) reading) (sym at) in
-      let both : IsShownFrom options i (listed ∷ drop (i + 1) reading) (found ++ rest) = record { first = found; rest = rest; is = refl; of_first = shown; of_rest = left } in
-      let here : IsShownFrom options i (drop i reading) (found ++ rest) = subst (λ entries. IsShownFrom options i entries (found ++ rest)) (sym split) both in
-      subst (IsShown options reading) (sym (append_assoc before found rest) ∙ ap (λ ms. ms ++ rest) (sym grown)) (goes.told (found ++ rest) here);
+      let both : IsShownFrom options i (listed ∷ drop (i + 1) reading) (together found rest) = record { first = found; rest = rest; is = refl; of_first = shown; of_rest = left } in
+      let here : IsShownFrom options i (drop i reading) (together found rest) = subst (λ entries. IsShownFrom options i entries (together found rest)) (sym split) both in
+      subst (IsShown options reading) (sym (together_assoc before found rest) ∙ ap (λ all. together all rest) (sym grown)) (goes.told (together found rest) here);
 }
 
 -- what holds of all elements that are left holds of those behind the first
 pub all_rest : {X : Type 0} (P : X → Type 0) (xs : List X) (i : ℕ) (x : X) → i < length xs → AllByRecursion P (drop i xs) → AllByRecursion P (drop (i + 1) xs)
 all_rest P xs i x lt all = (subst (AllByRecursion P) (drop_more xs i x lt) all).1
 
--- behind the last entry these are all
-pub all_told : (options : Options) (reading : List Listed) (i : ℕ) (messages : List Message) → length reading ≤ i → GoesOn options reading i messages → IsShown options reading messages
-all_told options reading i messages past goes =
+-- behind the last entry this is all
+pub all_told : (options : Options) (reading : List Listed) (i : ℕ) (found : Findings) → length reading ≤ i → GoesOn options reading i found → IsShown options reading found
+all_told options reading i found past goes =
     let none : drop i reading ≡ [] = drop_all i reading past in
-    let left : IsShownFrom options i (drop i reading) [] = subst (λ entries. IsShownFrom options i entries []) (sym none) refl in
-    subst (IsShown options reading) (append-nil messages) (goes.told [] left)
+    let left : IsShownFrom options i (drop i reading) nothing = subst (λ entries. IsShownFrom options i entries nothing) (sym none) refl in
+    subst (IsShown options reading) (together_nothing found) (goes.told nothing left)
 
-source_only : (options : Options) (file : FileId) (bytes : List ℕ) (one other : List Message) → IsSourceShown options file bytes one → IsSourceShown options file bytes other → one ≡ other
+-- ---- there is one
+
+one_tokens : (bytes : List ℕ) (tokens others : Tokenized) → IsTokenized bytes tokens → IsTokenized bytes others → tokens ≡ others
+one_tokens bytes tokens others is was = every_from bytes (Ok tokens) is tt others was
+
+source_only : (options : Options) (file : FileId) (bytes : List ℕ) (one other : Findings) → IsSourceShown options file bytes one → IsSourceShown options file bytes other → one ≡ other
 source_only options file bytes one other (faulty p c f e) (faulty q d g h) =
     let same : (p ≡ q) × (c ≡ d) = every_fault_from bytes (Err (At p c)) tt f q d g in
-    e ∙ (λ i. syntax_error file (same.0 i) (same.1 i) ∷ []) ∙ sym h
-source_only options file bytes one other (faulty p c f e) (read tokens is h) = absurd (every_fault_from bytes (Ok tokens) is tt p c f)
-source_only options file bytes one other (read tokens is e) (faulty q d g h) = absurd (every_fault_from bytes (Ok tokens) is tt q d g)
-source_only options file bytes one other (read tokens is e) (read others was h) = e ∙ sym h
+    e ∙ (λ i. alone (syntax_error file (same.0 i) (reason_of (same.1 i)))) ∙ sym h
+source_only options file bytes one other (faulty p c f e) (formless tokens line cause is fault h) = absurd (every_fault_from bytes (Ok tokens) is tt p c f)
+source_only options file bytes one other (faulty p c f e) (read tokens tree is spelled h) = absurd (every_fault_from bytes (Ok tokens) is tt p c f)
+source_only options file bytes one other (formless tokens line cause is fault e) (faulty q d g h) = absurd (every_fault_from bytes (Ok tokens) is tt q d g)
+source_only options file bytes one other (formless tokens line cause is fault e) (formless others at why was told h) =
+    let same : tokens ≡ others = one_tokens bytes tokens others is was in
+    let both : (line ≡ at) × (cause ≡ why) = fault-one others line at cause why (subst (λ t. IsFault t line cause) same fault) told in
+    e ∙ (λ i. alone (syntax_error file (head_of (both.0 i)) (syntax_reason (both.1 i)))) ∙ sym h
+source_only options file bytes one other (formless tokens line cause is fault e) (read others tree was spelled h) =
+    let same : tokens ≡ others = one_tokens bytes tokens others is was in
+    absurd (tree-or-fault others tree line cause spelled (subst (λ t. IsFault t line cause) same fault))
+source_only options file bytes one other (read tokens tree is spelled e) (faulty q d g h) = absurd (every_fault_from bytes (Ok tokens) is tt q d g)
+source_only options file bytes one other (read tokens tree is spelled e) (formless others at why was told h) =
+    let same : tokens ≡ others = one_tokens bytes tokens others is was in
+    absurd (tree-or-fault others tree at why (subst (λ t. Spells t tree) same spelled) told)
+source_only options file bytes one other (read tokens tree is spelled e) (read others wood was grown h) =
+    let same : tokens ≡ others = one_tokens bytes tokens others is was in
+    let trees : tree ≡ wood = tree-one others tree wood (subst (λ t. Spells t tree) same spelled) grown in
+    e ∙ (λ i. found_in options file bytes (same i) (trees i)) ∙ sym h
 
-entry_only : (options : Options) (file : FileId) (path : List ℕ) (found : Entry) (one other : List Message) → IsEntryShown options file path found one → IsEntryShown options file path found other → one ≡ other
+entry_only : (options : Options) (file : FileId) (path : List ℕ) (found : Entry) (one other : Findings) → IsEntryShown options file path found one → IsEntryShown options file path found other → one ≡ other
 entry_only options file path (entry.Source bytes) one other e h = source_only options file bytes one other e h
 entry_only options file path entry.Missing one other e h = e ∙ sym h
 entry_only options file path entry.NoPackage one other e h = e ∙ sym h
@@ -73,14 +125,14 @@ entry_only options file path entry.TooMany one other e h = e ∙ sym h
 entry_only options file path entry.TooDeep one other e h = e ∙ sym h
 entry_only options file path entry.TooMuch one other e h = e ∙ sym h
 
-shown_only : (options : Options) (number : ℕ) (reading : List Listed) (one other : List Message) → IsShownFrom options number reading one → IsShownFrom options number reading other → one ≡ other
+shown_only : (options : Options) (number : ℕ) (reading : List Listed) (one other : Findings) → IsShownFrom options number reading one → IsShownFrom options number reading other → one ≡ other
 shown_only options number [] one other e h = e ∙ sym h
 shown_only options number (listed ∷ reading) one other e h =
     let first : e.first ≡ h.first = entry_only options (record { 0 = number }) listed.path listed.entry e.first h.first e.of_first h.of_first in
     let rest : e.rest ≡ h.rest = shown_only options (number + 1) reading e.rest h.rest e.of_rest h.of_rest in
-    e.is ∙ (λ i. first i ++ rest i) ∙ sym h.is
+    e.is ∙ (λ i. together (first i) (rest i)) ∙ sym h.is
 
-by_line : (line : Result Line UsageFault) (whole : Whole) (one other : List Message) → IsShownBy line whole one → IsShownBy line whole other → one ≡ other
+by_line : (line : Result Line UsageFault) (whole : Whole) (one other : Findings) → IsShownBy line whole one → IsShownBy line whole other → one ≡ other
 by_line (Err fault) whole one other e h = e ∙ sym h
 by_line (Ok line) whole one other e h = shown_only (options_of [] line.edits) 0 whole.list one other e h
 

@@ -1,13 +1,17 @@
--- The union of the messages' bits is below 32, the status of words that are refused.
+-- The status of what is shown is below 32, the status of words that are refused.
 use Rattle.std.proofs.Common.{◌≡◌, ◌<◌, ◌↔◌, ◌^◌, ℕ, Bool, true, false, cond, List, [], ◌∷◌, subst, sym, ◌∙◌, arith, bit_or}
 use Rattle.std.specs.List.{fold}
-use Rattle.std.specs.Prelude.{Ok, IsErr}
+use Rattle.std.specs.Prelude.{Ok, IsErr, Option, Some, None}
 use Rattle.std.proofs.lemmas.Nat.{or_lt}
 use Rattle.lint_messages.specs.Codes.{bit, bit_of, category}
 use Rattle.lint_messages.specs.declared.message.Message.{Message}
 use Rattle.options.specs.declared.line.Line.{Line}
 use Rattle.options.specs.OneWord.{one_word_line}
+use Rattle.options.specs.Settings.{Settings, options_of}
+use Rattle.lint_report.specs.declared.findings.Findings.{Findings}
+use Rattle.lint_report.specs.declared.scores.Quotient.{Quotient}
 use Rattle.lint_report.specs.Report.{bits}
+use Rattle.lint_report.specs.Score.{bits_or_one, exact_score, status_by_score, status_of}
 use Rattle.lint_engine.specs.Command.{IsRefused}
 
 either_small : (b : Bool) (x y : ℕ) → x < 2 ^ 5 → y < 2 ^ 5 → cond b x y < 2 ^ 5
@@ -22,10 +26,22 @@ bits_from : (messages : List Message) (all : ℕ) → all < 2 ^ 5 → fold (λ a
 bits_from [] all small = small
 bits_from (m ∷ messages) all small = bits_from messages (bit_or all (bit m.code)) (or_lt 5 all (bit m.code) small (bit_small (category m.code)))
 
-pub bits_small : (messages : List Message) → bits messages < 2 ^ 5
+bits_small : (messages : List Message) → bits messages < 2 ^ 5
 bits_small messages = bits_from messages 0 (omega arith)
 
+bits_or_one_small : (messages : List Message) → bits_or_one messages < 2 ^ 5
+bits_or_one_small messages = either_small _ 1 _ (omega arith) (bits_small messages)
+
+by_score_small : (least : ℕ) (messages : List Message) (q : Option Quotient) → status_by_score least messages q < 2 ^ 5
+by_score_small least messages None = bits_small messages
+by_score_small least messages (Some q) = either_small _ 0 _ (omega arith) (bits_or_one_small messages)
+
+status_small : (found : Findings) (options : Settings) → status_of found options < 2 ^ 5
+status_small found options =
+    either_small _ 0 _ (omega arith)
+    (either_small _ _ _ (bits_or_one_small found.messages) (by_score_small options.fail_under found.messages (exact_score found.messages found.statements)))
+
 -- words that are read never have the status 32
-pub accepted : (words : List (List ℕ)) (line : Line) (messages : List Message) (status : ℕ) → one_word_line words ≡ Ok line → status ≡ bits messages → IsRefused words status
-accepted words line messages status read is =
-    (λ e. absurd (omega (arith, bits_small messages)), λ bad. let never : false ≡ true = subst IsErr read bad in cc)
+pub accepted : (words : List (List ℕ)) (line : Line) (found : Findings) (status : ℕ) → one_word_line words ≡ Ok line → status ≡ status_of found (options_of [] line.edits) → IsRefused words status
+accepted words line found status read is =
+    (λ e. absurd (omega (arith, status_small found (options_of [] line.edits))), λ bad. let never : false ≡ true = subst IsErr read bad in cc)

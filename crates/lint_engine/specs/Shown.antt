@@ -1,4 +1,5 @@
--- The messages that are shown of a reading: a relation, since where a source's first fault stands is one.
+-- What is found and shown of a reading, its messages and its statements: a relation, since where a source's first fault stands
+-- is one, and so is which tree its tokens spell.
 use Rattle.std.specs.Prelude.{◌≡◌, ℕ, ◌+◌, List, [], ◌∷◌, ◌++◌, codes}
 use Rattle.std.specs.Fmt.{decimal}
 use Rattle.lint_values.specs.declared.place.FileId.{FileId}
@@ -6,6 +7,7 @@ use Rattle.lint_values.specs.declared.place.Pos.{Pos}
 use Rattle.lint_messages.specs.declared.code.Code.{Code}
 use Rattle.lint_messages.specs.declared.code.Code.TheVariants.{SyntaxError, Fatal, ParseError}
 use Rattle.lint_messages.specs.declared.message.Message.{Message}
+use Rattle.lint_messages.specs.Order.{in_order}
 use Rattle.options.specs.declared.settings.Options.{Options}
 use Rattle.file_list.specs.declared.entry.Entry.{Entry}
 use Rattle.file_list.specs.declared.entry.Entry.TheVariants as entry
@@ -14,7 +16,14 @@ use Rattle.py_token.specs.declared.fault.TokenCause.{TokenCause}
 use Rattle.py_token.specs.declared.fault.TokenCause.TheVariants.{NotUtf8, NulByte, Coding, BadChar, OpenString, OpenBracket, CloseBracket, Dedent, TabMix, TooDeep, BadNumber, Continuation}
 use Rattle.py_token.specs.FirstFault.{IsFirstFault}
 use Rattle.py_token.specs.Tokenized.{Tokenized, IsTokenized}
+use Rattle.tree_nodes.specs.Trees.{Tree}
+use Rattle.parse_stmt.specs.declared.fault.LineCause.TheVariants.{NoForm, Field}
+use Rattle.parse_stmt.specs.declared.fault.SyntaxCause.{SyntaxCause}
+use Rattle.parse_stmt.specs.declared.fault.SyntaxCause.TheVariants as syntax
+use Rattle.parse_stmt.specs.Spelling.{Spells, IsFault}
 use Rattle.check_basic.specs.LineRules.{message, source_messages}
+use Rattle.check_basic.specs.TreeRules.{tree_messages, statement_count}
+use Rattle.lint_report.specs.declared.findings.Findings.{Findings}
 
 -- why a source can't be read as tokens
 abbrev pub reason_of : TokenCause → List ℕ
@@ -31,44 +40,78 @@ reason_of TooDeep = codes "too many levels"
 reason_of BadNumber = codes "invalid number"
 reason_of Continuation = codes "nothing may follow a backslash"
 
--- syntax-error at a fault of the tokens
-abbrev pub syntax_error : FileId → Pos → TokenCause → Message
-syntax_error file pos cause = message file pos.line pos.col SyntaxError (reason_of cause ∷ decimal pos.line ∷ [])
+-- why the tokens of a source spell no tree
+abbrev pub syntax_reason : SyntaxCause → List ℕ
+syntax_reason (syntax.Line NoForm) = codes "invalid syntax"
+syntax_reason (syntax.Line (Field fault)) = codes "invalid f-string field"
+syntax_reason syntax.Follows = codes "clause without its opener"
+syntax_reason syntax.NeedsBlock = codes "expected an indented block"
+syntax_reason syntax.Unexpected = codes "unexpected indentation"
 
--- the messages of a file's bytes: one alone at the first fault of its tokens, and where there is none those of its lines
-pub data IsSourceShown (options : Options) (file : FileId) (bytes : List ℕ) (messages : List Message) : Type 0 where
-  faulty : (pos : Pos) (cause : TokenCause) → IsFirstFault bytes pos cause → messages ≡ syntax_error file pos cause ∷ [] → IsSourceShown options file bytes messages
-  read : (tokens : Tokenized) → IsTokenized bytes tokens → messages ≡ source_messages options file bytes → IsSourceShown options file bytes messages
+-- syntax-error at a place, with its reason
+abbrev pub syntax_error : FileId → Pos → List ℕ → Message
+syntax_error file pos reason = message file pos.line pos.col SyntaxError (reason ∷ decimal pos.line ∷ [])
+
+-- the head of a line
+abbrev pub head_of : ℕ → Pos
+head_of line = record { line = line; col = 0 }
+
+-- ---- what is found
+
+-- nothing
+abbrev pub nothing : Findings
+nothing = record { messages = []; statements = 0 }
+
+-- one message alone, and no statements
+abbrev pub alone : Message → Findings
+alone message = record { messages = message ∷ []; statements = 0 }
+
+-- what the one part has and then what the other has
+abbrev pub together : Findings → Findings → Findings
+together one other = record { messages = one.messages ++ other.messages; statements = one.statements + other.statements }
+
+-- the messages of a source's lines, of its tokens and of its tree, in their order, and its statements
+abbrev pub found_in : Options → FileId → List ℕ → Tokenized → Tree → Findings
+found_in options file bytes tokens tree =
+    record { messages = in_order (source_messages options file bytes ++ tree_messages file tokens tree); statements = statement_count tree }
+
+-- What is shown of a file's bytes: one message alone at the first fault of its tokens; where there is none, one at the head of the
+-- first line at fault; and where there is none, what is found in the source.
+pub data IsSourceShown (options : Options) (file : FileId) (bytes : List ℕ) (found : Findings) : Type 0 where
+  faulty : (pos : Pos) (cause : TokenCause) → IsFirstFault bytes pos cause → found ≡ alone (syntax_error file pos (reason_of cause)) → IsSourceShown options file bytes found
+  formless : (tokens : Tokenized) (line : ℕ) (cause : SyntaxCause) → IsTokenized bytes tokens → IsFault tokens line cause
+      → found ≡ alone (syntax_error file (head_of line) (syntax_reason cause)) → IsSourceShown options file bytes found
+  read : (tokens : Tokenized) (tree : Tree) → IsTokenized bytes tokens → Spells tokens tree → found ≡ found_in options file bytes tokens tree → IsSourceShown options file bytes found
 
 -- the one message of an entry that was not read, at the head of its file
-abbrev pub unread : FileId → Code → List ℕ → List Message
-unread file code arg = message file 1 0 code (arg ∷ []) ∷ []
+abbrev pub unread : FileId → Code → List ℕ → Findings
+unread file code arg = alone (message file 1 0 code (arg ∷ []))
 
--- the messages of an entry: fatal where nothing is there to be linted, parse-error where it can't be read
-abbrev pub IsEntryShown : Options → FileId → List ℕ → Entry → List Message → Type 0
-IsEntryShown options file path (entry.Source bytes) messages = IsSourceShown options file bytes messages
-IsEntryShown options file path entry.Missing messages = messages ≡ unread file Fatal path
-IsEntryShown options file path entry.NoPackage messages = messages ≡ unread file Fatal path
-IsEntryShown options file path entry.Failed messages = messages ≡ unread file ParseError (codes "read failed")
-IsEntryShown options file path entry.TooLarge messages = messages ≡ unread file ParseError (codes "file too large")
-IsEntryShown options file path entry.TooMany messages = messages ≡ unread file ParseError (codes "too many files")
-IsEntryShown options file path entry.TooDeep messages = messages ≡ unread file ParseError (codes "folders too deep")
-IsEntryShown options file path entry.TooMuch messages = messages ≡ unread file ParseError (codes "sources too large")
+-- what is shown of an entry: fatal where nothing is there to be linted, parse-error where it can't be read
+abbrev pub IsEntryShown : Options → FileId → List ℕ → Entry → Findings → Type 0
+IsEntryShown options file path (entry.Source bytes) found = IsSourceShown options file bytes found
+IsEntryShown options file path entry.Missing found = found ≡ unread file Fatal path
+IsEntryShown options file path entry.NoPackage found = found ≡ unread file Fatal path
+IsEntryShown options file path entry.Failed found = found ≡ unread file ParseError (codes "read failed")
+IsEntryShown options file path entry.TooLarge found = found ≡ unread file ParseError (codes "file too large")
+IsEntryShown options file path entry.TooMany found = found ≡ unread file ParseError (codes "too many files")
+IsEntryShown options file path entry.TooDeep found = found ≡ unread file ParseError (codes "folders too deep")
+IsEntryShown options file path entry.TooMuch found = found ≡ unread file ParseError (codes "sources too large")
 
 -- a first part meets one fact and the rest another
-pub record InTwo (First Rest : List Message → Type 0) (messages : List Message) : Type 0 where
-  pub first : List Message
-  pub rest : List Message
-  pub is : messages ≡ first ++ rest
+pub record InTwo (First Rest : Findings → Type 0) (found : Findings) : Type 0 where
+  pub first : Findings
+  pub rest : Findings
+  pub is : found ≡ together first rest
   pub of_first : First first
   pub of_rest : Rest rest
 
--- the messages of these entries, the first of which has this number
-abbrev pub IsShownFrom : Options → ℕ → List Listed → List Message → Type 0
-IsShownFrom options number [] messages = messages ≡ []
-IsShownFrom options number (listed ∷ reading) messages =
-    InTwo (IsEntryShown options (record { 0 = number }) listed.path listed.entry) (IsShownFrom options (number + 1) reading) messages
+-- what is shown of these entries, the first of which has this number
+abbrev pub IsShownFrom : Options → ℕ → List Listed → Findings → Type 0
+IsShownFrom options number [] found = found ≡ nothing
+IsShownFrom options number (listed ∷ reading) found =
+    InTwo (IsEntryShown options (record { 0 = number }) listed.path listed.entry) (IsShownFrom options (number + 1) reading) found
 
--- all messages that are shown, in the order of entries
-abbrev pub IsShown : Options → List Listed → List Message → Type 0
-IsShown options reading messages = IsShownFrom options 0 reading messages
+-- what is shown of a reading, in the order of its entries
+abbrev pub IsShown : Options → List Listed → Findings → Type 0
+IsShown options reading found = IsShownFrom options 0 reading found

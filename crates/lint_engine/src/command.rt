@@ -16,7 +16,7 @@ use crate::list::lint_list;
 use crate::writing::write_lines;
 use file_list::{Reading, gather};
 use lint_base::{Files, Gate, Memory, Sink, SinkFault, Text, Texts};
-use lint_report::{Answer, OptionsRead, Outcome, Whole, status, text, usage_text};
+use lint_report::{Answer, OptionsRead, Outcome, Whole, exit_status, scored_text, usage_text};
 use options::{Edits, Line, Options, UsageFault, read_one_word};
 use std::alloc::Global;
 use std::thread::Threads;
@@ -39,10 +39,10 @@ fn report_of<R: Threads + Sync, G: Gate>(
     ensures { IfOk result (λ made. IsReport options.now reading.now made.lines made.status) }
 {
     let found = lint_list(rt, alloc, reading, options, gate)?;
-    let lines = text(alloc, reading, &found, options)?;
+    let lines = scored_text(alloc, reading, &found, options)?;
     Ok(Report {
         lines,
-        status: status(&found, options),
+        status: exit_status(&found, options),
     })
 }
 
@@ -159,10 +159,10 @@ pub fn lint_command<R: Threads + Sync, F: Files, O: Sink, E: Sink, G: Gate>(
     err: &mut E,
     gate: &G,
 ) -> Outcome
-    // What is printed and the status are the stated ones of the words, of what was read, and of the messages shown of it.
+    // What is printed and the status are the stated ones of the words, of what was read, and of what is shown of it.
     ensures ran { OnRan result.answer (IsRun words.now result.read (O.written out.old) (O.written out.new) (E.written err.old) (E.written err.new)) }
 
-    // These messages are the only ones, so what is printed and the status are a function of the words and of what was read.
+    // Nothing else is shown of it, so what is printed and the status are a function of the words and of what was read.
     ensures determined { IsDetermined words.now result.read }
 
     // The status 32 says that the words are refused, and no other status does.

@@ -1,32 +1,35 @@
-// The messages of an entry.
-ghost use Rattle.std.specs.Prelude.{◌≡◌, [], ◌∷◌, IfOk};
+// What is found in an entry.
+ghost use Rattle.std.specs.Prelude.{◌≡◌, ◌<◌, ◌^◌, IfOk};
 ghost use Rattle.lint_engine.specs.Shown.{unread, IsEntryShown};
 ghost use Rattle.file_list.specs.Entries.{HasShortSource};
 
-use crate::source::{check_source, message_at, one_message, one_text};
+use crate::messages::{alone, message_at, one_text};
+use crate::source::check_source;
 use file_list::{Entry, Listed};
-use lint_base::{Code, FileId, Memory, Messages, Pos};
+use lint_base::{Code, FileId, Memory, Pos};
+use lint_report::Findings;
 use options::Options;
 use std::alloc::Global;
 
 // The one message of an entry that was not read, at the head of its file.
-fn unread(alloc: Global, file: FileId, code: Code, arg: &str) -> Result<Messages, Memory>
-    ensures { IfOk result (λ messages. messages ≡ unread file code arg.now) }
+fn unread(alloc: Global, file: FileId, code: Code, arg: &str) -> Result<Findings, Memory>
+    ensures { IfOk result (λ found. found ≡ unread file code arg.now) }
 {
     let args = one_text(alloc, arg)?;
     let head = Pos { line: 1, col: 0 };
-    Ok(one_message(alloc, message_at(file, head, code, args))?)
+    Ok(alone(alloc, message_at(file, head, code, args))?)
 }
 
-// The messages of an entry.
+// What is found in an entry.
 pub(crate) fn check_entry(
     alloc: Global,
     file: FileId,
     listed: &Listed,
     options: &Options,
-) -> Result<Messages, Memory>
+) -> Result<Findings, Memory>
     requires { HasShortSource listed.now.entry }
-    ensures { IfOk result (λ messages. IsEntryShown options.now file listed.now.path listed.now.entry messages) }
+    ensures shown { IfOk result (λ found. IsEntryShown options.now file listed.now.path listed.now.entry found) }
+    ensures few { IfOk result (λ found. found.statements < 2 ^ 32) }
 {
     match &listed.entry {
         Entry::Source(bytes) => Ok(check_source(alloc, file, bytes.as_slice(), options)?),

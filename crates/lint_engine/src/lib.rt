@@ -3,7 +3,9 @@
 
 mod command;
 mod entries;
+mod faults;
 mod list;
+mod messages;
 mod source;
 mod writing;
 

@@ -1,4 +1,4 @@
-// The messages of a whole reading.
+// What is found in a whole reading.
 ghost use Rattle.std.specs.Prelude.{◌≡◌, IfOk};
 ghost use Rattle.lint_engine.specs.Shown.{IsShown};
 
@@ -18,18 +18,19 @@ pub fn lint_list<R: Threads + Sync, G: Gate>(
     options: &Options,
     gate: &G,
 ) -> Result<Findings, Memory>
-    ensures messages { IfOk result (λ findings. IsShown options.now reading.now findings.messages) }
-    ensures statements { IfOk result (λ findings. findings.statements ≡ 0) }
+    ensures { IfOk result (λ found. IsShown options.now reading.now found) }
 {
     let mut messages = Messages::new(alloc);
+    let mut statements = 0;
     for (i, listed) in reading.entries().iter().enumerate() {
         let file = FileId(i as u32);
         gate.pass(file);
         let found = check_entry(alloc, file, listed, options)?;
-        messages.append(found)?;
+        messages.append(found.messages)?;
+        statements += found.statements;
     }
     Ok(Findings {
         messages,
-        statements: 0,
+        statements,
     })
 }

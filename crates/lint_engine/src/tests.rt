@@ -10,6 +10,13 @@ use std::thread::Threads;
 
 const ROOM: u32 = 1_048_576;
 
+// The last four lines of a report with the best score, and with the worst.
+const BEST: &str =
+    "\n------------------------------------\nYour code has been rated at 10.00/10\n\n";
+
+const WORST: &str =
+    "\n-----------------------------------\nYour code has been rated at 0.00/10\n\n";
+
 fn texts(alloc: Global, words: &[&str]) -> Result<Vec<Text>, Fail> {
     let mut texts = Vec::new(alloc);
     for word in words {
@@ -47,50 +54,79 @@ fn runs<R: Abort + Threads + Sync, F: Files>(
 #[test]
 fn a_file_is_reported(rt: HostRuntime) -> Result<(), Fail> {
     let alloc = rt.alloc();
-    let rows: [(&str, &[u8], &str, u8); 9] = [
-        ("a.py", b"", "", 0),
-        ("a.py", b"\"\"\"Doc.\"\"\"\nX = 1\n", "", 0),
-        ("a.py", b"\xef\xbb\xbf", "", 0),
+    let rows: [(&str, &[u8], &str, &str, u8); 11] = [
+        ("a.py", b"", "", "", 0),
+        ("a.py", b"\"\"\"Doc.\"\"\"\nX = 1\n", "", BEST, 0),
+        ("a.py", b"\xef\xbb\xbf", "", "", 0),
         (
             "c.py",
             b"\"\"\"Doc.\"\"\"\nX = 1  ",
             "************* Module c\nc.py:2:0: C0304: Final newline missing (missing-final-newline)\nc.py:2:5: C0303: Trailing whitespace (trailing-whitespace)\n",
+            WORST,
             16,
         ),
         (
             "e.py",
             b"X = '\xc3\xa9'  # \t\x0b\r\nY = 1\r",
-            "************* Module e\ne.py:1:10: C0303: Trailing whitespace (trailing-whitespace)\n",
+            "************* Module e\ne.py:1:0: C0114: Missing module docstring (missing-module-docstring)\ne.py:1:10: C0303: Trailing whitespace (trailing-whitespace)\n",
+            WORST,
             16,
         ),
         (
             "a.py",
             b"X=\xff\n",
             "************* Module a\na.py:1:2: E0001: Parsing failed: 'source is not UTF-8 (line 1)' (syntax-error)\n",
+            "",
             2,
         ),
         (
             "a.py",
             b"\xef\xbb\xbfX = 1\r\xc3\xa9\xed\xa0\x80",
             "************* Module a\na.py:2:2: E0001: Parsing failed: 'source is not UTF-8 (line 2)' (syntax-error)\n",
+            "",
             2,
         ),
         (
             "__init__.py",
             b"X = 1",
-            "************* Module __init__\n__init__.py:1:0: C0304: Final newline missing (missing-final-newline)\n",
+            "************* Module __init__\n__init__.py:1:0: C0114: Missing module docstring (missing-module-docstring)\n__init__.py:1:0: C0304: Final newline missing (missing-final-newline)\n",
+            WORST,
             16,
         ),
         (
             "script",
             b"X = 1 \n",
-            "************* Module script\nscript:1:5: C0303: Trailing whitespace (trailing-whitespace)\n",
+            "************* Module script\nscript:1:0: C0114: Missing module docstring (missing-module-docstring)\nscript:1:5: C0303: Trailing whitespace (trailing-whitespace)\n",
+            WORST,
             16,
         ),
+        (
+            "s.py",
+            b"\"\"\"Doc.\"\"\"\nX = 1 \nX = 1 \nX = 1 \nX = 1\nX = 1\nX = 1\nX = 1\nX = 1\nX = 1\nX = 1\nX = 1\nX = 1\nX = 1\nX = 1\nX = 1\nX = 1\n",
+            "************* Module s\ns.py:2:5: C0303: Trailing whitespace (trailing-whitespace)\ns.py:3:5: C0303: Trailing whitespace (trailing-whitespace)\ns.py:4:5: C0303: Trailing whitespace (trailing-whitespace)\n",
+            "\n-----------------------------------\nYour code has been rated at 8.12/10\n\n",
+            16,
+        ),
+        (
+            "m.py",
+            b"import os, sys; import re;\nclass A:\n    def f(self):\n        pass; pass\n\n    def _g(self): ...\n",
+            "************* Module m\nm.py:1:0: C0114: Missing module docstring (missing-module-docstring)\nm.py:1:0: C0410: Multiple imports on one line (os, sys) (multiple-imports)\nm.py:1:0: W0301: Unnecessary semicolon (unnecessary-semicolon)\nm.py:1:16: C0321: More than one statement on a single line (multiple-statements)\nm.py:2:0: C0115: Missing class docstring (missing-class-docstring)\nm.py:3:4: C0116: Missing function or method docstring (missing-function-docstring)\nm.py:4:8: W0107: Unnecessary pass statement (unnecessary-pass)\nm.py:4:14: C0321: More than one statement on a single line (multiple-statements)\nm.py:4:14: W0107: Unnecessary pass statement (unnecessary-pass)\n",
+            WORST,
+            20,
+        ),
     ];
-    for (path, bytes, printed, status) in rows {
+    for (path, bytes, lines, score, status) in rows {
         let mut files = held(alloc, path, bytes)?;
-        runs(&rt, alloc, &[path], &mut files, printed, "", status)?;
+        let printed = format!(in alloc; "{lines}{score}")?;
+        runs(
+            &rt,
+            alloc,
+            &[path],
+            &mut files,
+            printed.as_str(),
+            "",
+            status,
+        )?;
     }
     Ok(())
 }
@@ -144,9 +180,34 @@ fn the_first_fault_of_the_tokens_is_told_alone(rt: HostRuntime) -> Result<(), Fa
     Ok(())
 }
 
-// So many brackets, a name between them, and as many closed.
+#[test]
+fn the_first_line_at_fault_is_told_alone(rt: HostRuntime) -> Result<(), Fail> {
+    let alloc = rt.alloc();
+    let rows: [(&[u8], u32, &str); 12] = [
+        (b"f(a=1, 2)\n", 1, "invalid syntax"),
+        (b"X = 1 \n\n(\n1\n2)\n", 3, "invalid syntax"),
+        (b"X = f'{a b}'\n", 1, "invalid syntax"),
+        (b"X = f'{}'\n", 1, "invalid f-string field"),
+        (b"X = f'{a!x}'\n", 1, "invalid f-string field"),
+        (b"else:\n    pass\n", 1, "clause without its opener"),
+        (b"try:\n    pass\nX = 1\n", 3, "clause without its opener"),
+        (b"@f\nX = 1\n", 2, "clause without its opener"),
+        (b"if X:\nY = 1\n", 2, "expected an indented block"),
+        (b"X = 1\nif X:\n", 2, "expected an indented block"),
+        (b"X = 1\n    Y = 2\n", 2, "unexpected indentation"),
+        (b"    X = 1\n", 1, "unexpected indentation"),
+    ];
+    for (source, line, reason) in rows {
+        let mut files = held(alloc, "t.py", source)?;
+        let printed = syntax_error(alloc, line, 0, reason)?;
+        runs(&rt, alloc, &["t.py"], &mut files, printed.as_str(), "", 2)?;
+    }
+    Ok(())
+}
+
+// A docstring, and on a line of their own so many brackets, a name between them, and as many closed.
 fn nested(alloc: Global, depth: usize) -> Result<Vec<u8>, Fail> {
-    let mut source = Vec::new(alloc);
+    let mut source = Vec::from_slice(alloc, b"\"\"\"Doc.\"\"\"\n")?;
     for _ in 0..depth {
         source.push(b'(')?;
     }
@@ -158,13 +219,47 @@ fn nested(alloc: Global, depth: usize) -> Result<Vec<u8>, Fail> {
     Ok(source)
 }
 
+// A report on a line of so many characters, the only statement.
+fn too_long(alloc: Global, count: u32) -> Result<String, Fail> {
+    let score = WORST;
+    Ok(format!(in alloc;
+        "************* Module t\nt.py:2:0: C0301: Line too long ({count}/100) (line-too-long)\n{score}"
+    )?)
+}
+
 #[test]
 fn brackets_may_nest_so_deep(rt: HostRuntime) -> Result<(), Fail> {
     let alloc = rt.alloc();
-    let mut files = held(alloc, "t.py", &nested(alloc, 49)?)?;
-    runs(&rt, alloc, &["t.py"], &mut files, "", "", 0)?;
+    for depth in [0, 49] {
+        let mut files = held(alloc, "t.py", &nested(alloc, depth)?)?;
+        runs(&rt, alloc, &["t.py"], &mut files, BEST, "", 0)?;
+    }
+    let mut files = held(alloc, "t.py", &nested(alloc, 200)?)?;
+    let printed = too_long(alloc, 401)?;
+    runs(&rt, alloc, &["t.py"], &mut files, printed.as_str(), "", 16)?;
     let mut files = held(alloc, "t.py", &nested(alloc, 201)?)?;
-    let printed = syntax_error(alloc, 1, 200, "too many levels")?;
+    let printed = syntax_error(alloc, 2, 200, "too many levels")?;
+    runs(&rt, alloc, &["t.py"], &mut files, printed.as_str(), "", 2)
+}
+
+// A docstring, and on a line of their own so many `not` and a name.
+fn denied(alloc: Global, times: usize) -> Result<Vec<u8>, Fail> {
+    let mut source = Vec::from_slice(alloc, b"\"\"\"Doc.\"\"\"\n")?;
+    for _ in 0..times {
+        source.extend_from_slice(b"not ")?;
+    }
+    source.extend_from_slice(b"x\n")?;
+    Ok(source)
+}
+
+#[test]
+fn expressions_may_nest_so_deep(rt: HostRuntime) -> Result<(), Fail> {
+    let alloc = rt.alloc();
+    let mut files = held(alloc, "t.py", &denied(alloc, 199)?)?;
+    let printed = too_long(alloc, 797)?;
+    runs(&rt, alloc, &["t.py"], &mut files, printed.as_str(), "", 16)?;
+    let mut files = held(alloc, "t.py", &denied(alloc, 200)?)?;
+    let printed = syntax_error(alloc, 2, 0, "invalid syntax")?;
     runs(&rt, alloc, &["t.py"], &mut files, printed.as_str(), "", 2)
 }
 
@@ -269,12 +364,13 @@ fn a_failing_call_is_told(rt: HostRuntime) -> Result<(), Fail> {
             1,
             1,
         ),
-        (3, "", 0, 0),
+        (3, BEST, 0, 0),
     ];
     for (call, printed, status, failures) in rows {
         let mut fail = Calls::new(alloc);
         fail.add(call)?;
-        let mut files = FailingFiles::new(held(alloc, "c.py", b"X = 1\n")?, fail);
+        let held = held(alloc, "c.py", b"\"\"\"Doc.\"\"\"\nX = 1\n")?;
+        let mut files = FailingFiles::new(held, fail);
         runs(&rt, alloc, &["c.py"], &mut files, printed, "", status)?;
         assert_eq!(rt; files.failed().len(), failures);
     }

@@ -1,11 +1,10 @@
-use Rattle.lint_engine.proofs.ShownLaws.{faulty_source, read_source}
+use Rattle.std.proofs.Common.{ap, ◌∙◌, ◌≡◌}
+use Rattle.lint_engine.specs.Shown.{alone, syntax_error}
+use Rattle.lint_engine.proofs.ShownLaws.{faulty_source}
 use Rattle.lint_engine.proofs.source.check_source.Goals as goal
 
-pub returns-in_ok-check_lines-in-Ok : goal.returns-in_ok-check_lines-in-Ok
-returns-in_ok-check_lines-in-Ok c = read_source c.args.options.now c.args.file c.args.bytes.now _ _ c.in-Ok.ensures.tokens c.in_ok-check_lines-in-Ok.ensures
-
-pub returns-in_ok-one_message-in-Err-At : goal.returns-in_ok-one_message-in-Err-At
-returns-in_ok-one_message-in-Err-At c =
+pub returns-in_ok-told-in-Err-At-clause-shown : goal.returns-in_ok-told-in-Err-At-clause-shown
+returns-in_ok-told-in-Err-At-clause-shown c =
     let first = rw c.in-Err-At.field-0-is at c.in-Err-At.ensures.fault in
-    faulty_source c.args.options.now c.args.file c.args.bytes.now c.in-Err-At.pos c.in-Err-At.cause c.in_ok-message-in-Err-At.message c.in_ok-one_message-in-Err-At.field-0
-    first c.in_ok-message-in-Err-At.ensures c.in_ok-one_message-in-Err-At.ensures
+    faulty_source c.args.options.now c.args.file c.args.bytes.now c.in-Err-At.pos c.in-Err-At.cause _ first
+    (c.in_ok-told-in-Err-At.ensures ∙ ap (λ reason. alone (syntax_error c.args.file c.in-Err-At.pos reason)) c.reason_of.ensures)
