@@ -12,3 +12,6 @@ mod terminals;
 pub use fault::LineFault;
 pub use form::LineForm;
 pub use line::read_line;
+
+#[cfg(test)]
+mod tests;
