@@ -25,3 +25,7 @@ last_there p fails q e = list_any-append p fails (q ∷ []) ∙ ap (λ b. list_a
 -- another question behind changes nothing
 pub other_behind : (p : Question → Bool) (fails : List Question) (q : Question) → p q ≡ false → list_any p (fails ++ q ∷ []) ≡ list_any p fails
 other_behind p fails q e = list_any-append p fails (q ∷ []) ∙ ap (λ b. list_any p fails || (b || false)) e ∙ or_false (list_any p fails)
+
+-- other questions behind change nothing
+pub same_behind : (p : Question → Bool) (fails more : List Question) → list_any p more ≡ false → list_any p (fails ++ more) ≡ list_any p fails
+same_behind p fails more e = list_any-append p fails more ∙ ap (λ b. list_any p fails || b) e ∙ or_false (list_any p fails)

@@ -1,18 +1,10 @@
--- The module name of a file in the current folder, and the file of a module name.
-use Rattle.std.specs.Prelude.{ℕ, List, ◌-◌, ◌==◌, Bool, length, take, codes, count_by, position, if◌then◌else◌, nat_eq, Option, None}
-use Rattle.std.specs.List.{ends_with}
+-- The file of a module name.
+use Rattle.std.specs.Prelude.{◌≡◌, ℕ, List, ◌==◌, Bool, count_by, position, if◌then◌else◌, Option, None, Some}
+use Rattle.std.specs.List.{list_any}
 use Rattle.std.specs.Option.{option_map}
 use Rattle.std.specs.Str.{bytes_eq}
 use Rattle.lint_values.specs.declared.place.FileId.{FileId}
 use Rattle.file_list.specs.declared.entry.Listed.{Listed}
-
--- the path without `.py`
-abbrev pub module_of : List ℕ → List ℕ
-module_of path = if ends_with nat_eq path (codes ".py") then take (length path - 3) path else path
-
--- the file that makes its folder a package
-abbrev pub is_init : List ℕ → Bool
-is_init path = bytes_eq path (codes "__init__.py")
 
 abbrev pub is_module : List ℕ → Listed → Bool
 is_module dotted listed = bytes_eq dotted listed.module_name
@@ -24,3 +16,11 @@ file_at place = record { 0 = place }
 abbrev pub file_of_module : List ℕ → List Listed → Option FileId
 file_of_module dotted reading =
     if count_by (is_module dotted) reading == 1 then option_map file_at (position (is_module dotted) reading) else None
+
+-- what the table of names has for a name: nothing where no entry bears it
+abbrev pub indexed : List ℕ → List Listed → Option (Option FileId)
+indexed dotted reading = if list_any (is_module dotted) reading then Some (file_of_module dotted reading) else None
+
+-- The table has each name of the entries, and no other.
+abbrev pub HasIndex : (List ℕ → Option (Option FileId)) → List Listed → Type 0
+HasIndex index reading = (dotted : List ℕ) → index dotted ≡ indexed dotted reading

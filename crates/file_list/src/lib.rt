@@ -1,6 +1,7 @@
 //! Files and folders: which are read, and what was found.
 #![tactic(auto)]
 
+mod contents;
 mod entry;
 mod findings;
 mod found;
@@ -10,10 +11,12 @@ mod packages;
 mod paths;
 mod reading;
 mod walking;
-mod whole;
 
+pub use contents::MAX_FILE_BYTES;
 pub use entry::{Entry, Listed};
-pub use found::{Finding, Found};
-pub use gathering::{MAX_FILE_BYTES, gather};
+pub(crate) use found::{Finding, Found};
+pub use gathering::gather;
 pub use reading::Reading;
-pub use whole::find_paths;
+
+#[cfg(test)]
+mod tests;

@@ -1,31 +1,38 @@
 // What was read, one entry after another.
-ghost use Rattle.std.specs.Prelude.{◌≡◌, ◌<◌, ◌^◌, ◌++◌, [], ◌∷◌, length, OnOk, OnErr, ◌-◌, IfSome, slice_get, count_by, position};
+ghost use Rattle.std.specs.Prelude.{◌≡◌, ◌<◌, ◌^◌, ◌++◌, [], ◌∷◌, length, OnOk, OnErr, ◌-◌, IfSome, slice_get, None, Some, if◌then◌else◌};
+ghost use Rattle.std.specs.BTreeMap as tree;
+ghost use Rattle.std.specs.Option.{is_some};
 ghost use Rattle.std.specs.List.{AllByRecursion};
 ghost use Rattle.file_list.specs.Entries.{HasShortSource};
-ghost use Rattle.file_list.specs.Modules.{is_module, file_of_module};
+ghost use Rattle.file_list.specs.Modules.{file_at, file_of_module};
 
 use crate::{Entry, Listed};
 use lint_values::{FileId, Memory, Text};
 use std::alloc::Global;
+use std::collections::BTreeMap;
 use std::marker::Model;
 
 /// What was read, seen as the list of its entries. A file's number is its place in the list, from 0.
 #[derive(Debug, Drop)]
 pub struct Reading {
     entries: Vec<Listed>,
+    // For each module name its one file, and none where more than one bears it.
+    modules: BTreeMap<String, Option<FileId>>,
 }
 
 impl Model for Reading {
     ghost use Rattle.std.specs.Prelude.{List, length, ◌<◌, ◌^◌};
     ghost use Rattle.std.specs.List.{AllByRecursion};
     ghost use Rattle.file_list.specs.declared.entry.Listed.{Listed};
+    ghost use Rattle.std.specs.BTreeMap as tree;
     ghost use Rattle.file_list.specs.Entries.{HasShortSource};
+    ghost use Rattle.file_list.specs.Modules.{HasIndex};
 
     ghost Value = { List Listed };
 
     ghost view = { λ r. r.entries.items };
 
-    ghost invariant = { λ r. (length r.entries.items < 2 ^ 32) × AllByRecursion (λ listed. HasShortSource listed.entry) r.entries.items };
+    ghost invariant = { λ r. (length r.entries.items < 2 ^ 32) × AllByRecursion (λ listed. HasShortSource listed.entry) r.entries.items × HasIndex (tree.get_by_text r.modules) r.entries.items };
 }
 
 impl Reading {
@@ -34,6 +41,7 @@ impl Reading {
     {
         Reading {
             entries: Vec::new(alloc),
+            modules: BTreeMap::new(alloc),
         }
     }
 
@@ -50,13 +58,22 @@ impl Reading {
         ensures ok { OnOk result (self.new ≡ self.old ++ record { path = path; module_name = module_name; is_package = is_package; entry = entry } ∷ []) }
         ensures err { OnErr result (self.new ≡ self.old) }
     {
+        let name = module_name.into_string();
+        let key = name.clone()?;
+        let file = next_file(&self.modules, key.as_str(), self.entries.len());
         self.entries.push(Listed {
             path,
-            module_name,
+            module_name: Text::from_string(name),
             is_package,
             entry,
         })?;
-        Ok(())
+        match self.modules.insert(key, file) {
+            Ok(_) => return Ok(()),
+            Err(_) => {
+                self.entries.pop();
+                return Err(Memory);
+            }
+        }
     }
 
     /// How many entries there are.
@@ -110,31 +127,20 @@ impl Reading {
     pub fn find(&self, dotted: &str) -> Option<FileId>
         ensures { result ≡ file_of_module dotted.now self.now }
     {
-        if modules_named(&self.entries, dotted) != 1 {
-            return None;
-        }
-        match first_module(&self.entries, dotted) {
-            Some(place) => Some(FileId(place as u32)),
+        match self.modules.get(dotted) {
+            Some(file) => *file,
             None => None,
         }
     }
 }
 
-fn is_module(dotted: &str, listed: &Listed) -> bool
-    ensures { result ≡ is_module dotted.now listed.now }
+// What the table gets for a name, where an entry at this place bears it too.
+fn next_file(modules: &BTreeMap<String, Option<FileId>>, name: &str, place: usize) -> Option<FileId>
+    requires { place < 2 ^ 32 }
+    ensures { result ≡ if is_some (tree.get_by_text modules.now name.now) then None else Some (file_at place) }
 {
-    dotted == listed.module_name.as_str()
-}
-
-fn modules_named(entries: &[Listed], dotted: &str) -> usize
-    ensures { result ≡ count_by (is_module dotted.now) entries.now }
-{
-    entries.iter().filter(|l| is_module(dotted, *l)).count()
-}
-
-fn first_module(entries: &[Listed], dotted: &str) -> Option<usize>
-    ensures place { result ≡ position (is_module dotted.now) entries.now }
-    ensures within { IfSome result (λ place. place < length entries.now) }
-{
-    entries.iter().position(|l| is_module(dotted, l))
+    match modules.get(name) {
+        Some(_) => None,
+        None => Some(FileId(place as u32)),
+    }
 }

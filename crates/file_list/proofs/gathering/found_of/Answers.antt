@@ -3,7 +3,7 @@ use Rattle.std.proofs.lemmas.Grind.{common_steps}
 use Rattle.std.proofs.lemmas.List.Sums.{fold_more}
 use Rattle.file_list.specs.Walked.{with_argument, found_of}
 use Rattle.file_list.proofs.Asking.{asks_to, asks_then, right_so_far}
-use Rattle.file_list.proofs.whole.found_of.Goals as goal
+use Rattle.file_list.proofs.gathering.found_of.Goals as goal
 
 pub with_argument-requires : goal.with_argument-requires
 with_argument-requires g c = right_so_far c.loop-argument.invariant.held c.requires c.loop-argument.invariant.asks

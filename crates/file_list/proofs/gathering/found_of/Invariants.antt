@@ -1,7 +1,7 @@
 use Rattle.std.proofs.Common.{◌≡◌, fold, take, []}
 use Rattle.file_list.specs.Asked.{Asks}
 use Rattle.file_list.specs.Walked.{with_argument}
-use Rattle.file_list.proofs.whole.found_of.Given as goal
+use Rattle.file_list.proofs.gathering.found_of.Given as goal
 
 abbrev pub invariant-loop-argument : goal.invariant-loop-argument
 invariant-loop-argument g l = record {
