@@ -1,4 +1,5 @@
 pub mod Outcomes
+pub mod ReadFrom
 pub mod ShownLaws
 pub mod Statuses
 pub mod Written

@@ -1,15 +1,12 @@
 -- What is shown of a reading is there, and nothing else is.
 use Rattle.std.proofs.Common.{◌≡◌, ◌<◌, ◌≤◌, ◌+◌, ℕ, List, [], ◌∷◌, ◌++◌, length, drop, get_or, refl, sym, ap, subst, ◌∙◌, append_assoc, arith}
-use Rattle.std.specs.Prelude.{Result, Ok, Err}
+use Rattle.std.specs.Prelude.{Ok, Err}
 use Rattle.std.specs.List.{AllByRecursion}
 use Rattle.std.proofs.lemmas.List.{drop_more, drop_all, append-nil}
 use Rattle.lint_values.specs.declared.place.FileId.{FileId}
 use Rattle.lint_values.specs.declared.place.Pos.{Pos}
-use Rattle.options.specs.declared.line.Line.{Line}
-use Rattle.options.specs.declared.settings.Options.{Options}
-use Rattle.options.specs.declared.usage.UsageFault.{UsageFault}
-use Rattle.options.specs.Settings.{options_of}
-use Rattle.options.specs.OneWord.{one_word_line}
+use Rattle.options.specs.Settings.{Settings}
+use Rattle.options_file.specs.Settings.{SettingsRead, settings_of}
 use Rattle.file_list.specs.declared.entry.Entry.{Entry}
 use Rattle.file_list.specs.declared.entry.Entry.TheVariants as entry
 use Rattle.file_list.specs.declared.entry.Listed.{Listed}
@@ -24,20 +21,20 @@ use Rattle.parse_stmt.specs.Spelling.{Spells, IsFault}
 use Rattle.parse_stmt.proofs.OneAnswer.{tree-one, fault-one, tree-or-fault}
 use Rattle.lint_report.specs.declared.findings.Findings.{Findings}
 use Rattle.lint_report.specs.declared.outcome.Whole.{Whole}
-use Rattle.lint_engine.specs.Shown.{reason_of, syntax_reason, syntax_error, head_of, nothing, alone, together, found_in, IsSourceShown, faulty, formless, read, IsEntryShown, InTwo, IsShownFrom, IsShown}
+use Rattle.lint_engine.specs.Shown.{reason_of, syntax_reason, syntax_error, head_of, nothing, alone, together, found_in, IsSourceFound, faulty, formless, read, shown_of, IsEntryFound, IsEntryShown, InTwo, IsShownFrom, IsShown}
 use Rattle.lint_engine.specs.Output.{IsShownBy}
-use Rattle.lint_engine.specs.Command.{IsDetermined}
+use Rattle.lint_engine.specs.Command.{Said, IsDetermined}
 
 -- ---- one source
 
-pub faulty_source : (options : Options) (file : FileId) (bytes : List ℕ) (pos : Pos) (cause : TokenCause) (found : Findings) → IsFirstFault bytes pos cause → found ≡ alone (syntax_error file pos (reason_of cause)) → IsSourceShown options file bytes found
+pub faulty_source : (options : Settings) (file : FileId) (bytes : List ℕ) (pos : Pos) (cause : TokenCause) (found : Findings) → IsFirstFault bytes pos cause → found ≡ alone (syntax_error file pos (reason_of cause)) → IsSourceFound options file bytes found
 faulty_source options file bytes pos cause found first is = faulty pos cause first is
 
-pub formless_source : (options : Options) (file : FileId) (bytes : List ℕ) (tokens : Tokenized) (line : ℕ) (cause : SyntaxCause) (found : Findings) → IsTokenized bytes tokens → IsFault tokens line cause
-    → found ≡ alone (syntax_error file (head_of line) (syntax_reason cause)) → IsSourceShown options file bytes found
+pub formless_source : (options : Settings) (file : FileId) (bytes : List ℕ) (tokens : Tokenized) (line : ℕ) (cause : SyntaxCause) (found : Findings) → IsTokenized bytes tokens → IsFault tokens line cause
+    → found ≡ alone (syntax_error file (head_of line) (syntax_reason cause)) → IsSourceFound options file bytes found
 formless_source options file bytes tokens line cause found tokenized fault is = formless tokens line cause tokenized fault is
 
-pub read_source : (options : Options) (file : FileId) (bytes : List ℕ) (tokens : Tokenized) (tree : Tree) (found : Findings) → IsTokenized bytes tokens → Spells tokens tree → found ≡ found_in options file bytes tokens tree → IsSourceShown options file bytes found
+pub read_source : (options : Settings) (file : FileId) (bytes : List ℕ) (tokens : Tokenized) (tree : Tree) (found : Findings) → IsTokenized bytes tokens → Spells tokens tree → found ≡ found_in options file bytes tokens tree → IsSourceFound options file bytes found
 read_source options file bytes tokens tree found is spelled e = read tokens tree is spelled e
 
 -- ---- parts behind each other
@@ -61,13 +58,13 @@ nothing_together a = (λ i. record { messages = a.messages; statements = zero_ad
     zero_add n = omega arith
 
 -- what is shown goes on with that of the entries that are left
-pub record GoesOn (options : Options) (reading : List Listed) (i : ℕ) (found : Findings) : Type 0 where
+pub record GoesOn (options : Settings) (reading : List Listed) (i : ℕ) (found : Findings) : Type 0 where
   pub told : (rest : Findings) → IsShownFrom options i (drop i reading) rest → IsShown options reading (together found rest)
 
-pub none_yet : (options : Options) (reading : List Listed) → GoesOn options reading 0 nothing
+pub none_yet : (options : Settings) (reading : List Listed) → GoesOn options reading 0 nothing
 none_yet options reading = record { told = λ rest shown. subst (IsShown options reading) (nothing_together rest) shown }
 
-pub one_more : (options : Options) (reading : List Listed) (i : ℕ) (listed : Listed) (before found now : Findings) → i < length reading → listed ≡ get_or reading i listed → now ≡ together before found → IsEntryShown options (record { 0 = i }) listed.path listed.entry found → GoesOn options reading i before → GoesOn options reading (i + 1) now
+pub one_more : (options : Settings) (reading : List Listed) (i : ℕ) (listed : Listed) (before found now : Findings) → i < length reading → listed ≡ get_or reading i listed → now ≡ together before found → IsEntryShown options (record { 0 = i }) listed.path listed.entry found → GoesOn options reading i before → GoesOn options reading (i + 1) now
 one_more options reading i listed before found now lt at grown shown goes = record {
   told = λ rest left.
       let split : drop i reading ≡ listed ∷ drop (i + 1) reading = drop_more reading i listed lt ∙ ap (λ l. l ∷ drop (i + 1) reading) (sym at) in
@@ -81,7 +78,7 @@ pub all_rest : {X : Type 0} (P : X → Type 0) (xs : List X) (i : ℕ) (x : X) �
 all_rest P xs i x lt all = (subst (AllByRecursion P) (drop_more xs i x lt) all).1
 
 -- behind the last entry this is all
-pub all_told : (options : Options) (reading : List Listed) (i : ℕ) (found : Findings) → length reading ≤ i → GoesOn options reading i found → IsShown options reading found
+pub all_told : (options : Settings) (reading : List Listed) (i : ℕ) (found : Findings) → length reading ≤ i → GoesOn options reading i found → IsShown options reading found
 all_told options reading i found past goes =
     let none : drop i reading ≡ [] = drop_all i reading past in
     let left : IsShownFrom options i (drop i reading) nothing = subst (λ entries. IsShownFrom options i entries nothing) (sym none) refl in
@@ -92,7 +89,7 @@ all_told options reading i found past goes =
 one_tokens : (bytes : List ℕ) (tokens others : Tokenized) → IsTokenized bytes tokens → IsTokenized bytes others → tokens ≡ others
 one_tokens bytes tokens others is was = every_from bytes (Ok tokens) is tt others was
 
-source_only : (options : Options) (file : FileId) (bytes : List ℕ) (one other : Findings) → IsSourceShown options file bytes one → IsSourceShown options file bytes other → one ≡ other
+source_only : (options : Settings) (file : FileId) (bytes : List ℕ) (one other : Findings) → IsSourceFound options file bytes one → IsSourceFound options file bytes other → one ≡ other
 source_only options file bytes one other (faulty p c f e) (faulty q d g h) =
     let same : (p ≡ q) × (c ≡ d) = every_fault_from bytes (Err (At p c)) tt f q d g in
     e ∙ (λ i. alone (syntax_error file (same.0 i) (reason_of (same.1 i)))) ∙ sym h
@@ -115,26 +112,30 @@ source_only options file bytes one other (read tokens tree is spelled e) (read o
     let trees : tree ≡ wood = tree-one others tree wood (subst (λ t. Spells t tree) same spelled) grown in
     e ∙ (λ i. found_in options file bytes (same i) (trees i)) ∙ sym h
 
-entry_only : (options : Options) (file : FileId) (path : List ℕ) (found : Entry) (one other : Findings) → IsEntryShown options file path found one → IsEntryShown options file path found other → one ≡ other
-entry_only options file path (entry.Source bytes) one other e h = source_only options file bytes one other e h
-entry_only options file path entry.Missing one other e h = e ∙ sym h
-entry_only options file path entry.NoPackage one other e h = e ∙ sym h
-entry_only options file path entry.Failed one other e h = e ∙ sym h
-entry_only options file path entry.TooLarge one other e h = e ∙ sym h
-entry_only options file path entry.TooMany one other e h = e ∙ sym h
-entry_only options file path entry.TooDeep one other e h = e ∙ sym h
-entry_only options file path entry.TooMuch one other e h = e ∙ sym h
+found_only : (options : Settings) (file : FileId) (path : List ℕ) (found : Entry) (one other : Findings) → IsEntryFound options file path found one → IsEntryFound options file path found other → one ≡ other
+found_only options file path (entry.Source bytes) one other e h = source_only options file bytes one other e h
+found_only options file path entry.Missing one other e h = e ∙ sym h
+found_only options file path entry.NoPackage one other e h = e ∙ sym h
+found_only options file path entry.Failed one other e h = e ∙ sym h
+found_only options file path entry.TooLarge one other e h = e ∙ sym h
+found_only options file path entry.TooMany one other e h = e ∙ sym h
+found_only options file path entry.TooDeep one other e h = e ∙ sym h
+found_only options file path entry.TooMuch one other e h = e ∙ sym h
 
-shown_only : (options : Options) (number : ℕ) (reading : List Listed) (one other : Findings) → IsShownFrom options number reading one → IsShownFrom options number reading other → one ≡ other
+entry_only : (options : Settings) (file : FileId) (path : List ℕ) (listed : Entry) (one other : Findings) → IsEntryShown options file path listed one → IsEntryShown options file path listed other → one ≡ other
+entry_only options file path listed one other e h =
+    e.is ∙ ap (shown_of options) (found_only options file path listed e.found h.found e.of_entry h.of_entry) ∙ sym h.is
+
+shown_only : (options : Settings) (number : ℕ) (reading : List Listed) (one other : Findings) → IsShownFrom options number reading one → IsShownFrom options number reading other → one ≡ other
 shown_only options number [] one other e h = e ∙ sym h
 shown_only options number (listed ∷ reading) one other e h =
     let first : e.first ≡ h.first = entry_only options (record { 0 = number }) listed.path listed.entry e.first h.first e.of_first h.of_first in
     let rest : e.rest ≡ h.rest = shown_only options (number + 1) reading e.rest h.rest e.of_rest h.of_rest in
     e.is ∙ (λ i. together (first i) (rest i)) ∙ sym h.is
 
-by_line : (line : Result Line UsageFault) (whole : Whole) (one other : Findings) → IsShownBy line whole one → IsShownBy line whole other → one ≡ other
-by_line (Err fault) whole one other e h = e ∙ sym h
-by_line (Ok line) whole one other e h = shown_only (options_of [] line.edits) 0 whole.list one other e h
+by_settings : (settled : SettingsRead) (reading : List Listed) (one other : Findings) → IsShownBy settled reading one → IsShownBy settled reading other → one ≡ other
+by_settings (Err fault) reading one other e h = e ∙ sym h
+by_settings (Ok options) reading one other e h = shown_only options 0 reading one other e h
 
-pub determined : (words : List (List ℕ)) (whole : Whole) → IsDetermined words whole
-determined words whole = by_line (one_word_line words) whole
+pub determined : (said : Said) (whole : Whole) → IsDetermined said whole
+determined said whole = by_settings (settings_of said whole.options) whole.list

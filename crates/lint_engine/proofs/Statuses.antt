@@ -1,18 +1,16 @@
--- The status of what is shown is below 32, the status of words that are refused.
+-- The status of what is shown is below 32, the status of a refusal.
 use Rattle.std.proofs.Common.{◌≡◌, ◌<◌, ◌↔◌, ◌^◌, ℕ, Bool, true, false, cond, List, [], ◌∷◌, subst, sym, ◌∙◌, arith, bit_or}
 use Rattle.std.specs.List.{fold}
 use Rattle.std.specs.Prelude.{Ok, IsErr, Option, Some, None}
 use Rattle.std.proofs.lemmas.Nat.{or_lt}
 use Rattle.lint_messages.specs.Codes.{bit, bit_of, category}
 use Rattle.lint_messages.specs.declared.message.Message.{Message}
-use Rattle.options.specs.declared.line.Line.{Line}
-use Rattle.options.specs.OneWord.{one_word_line}
-use Rattle.options.specs.Settings.{Settings, options_of}
+use Rattle.options.specs.Settings.{Settings}
+use Rattle.options_file.specs.Settings.{SettingsRead}
 use Rattle.lint_report.specs.declared.findings.Findings.{Findings}
 use Rattle.lint_report.specs.declared.scores.Quotient.{Quotient}
 use Rattle.lint_report.specs.Report.{bits}
 use Rattle.lint_report.specs.Score.{bits_or_one, exact_score, status_by_score, status_of}
-use Rattle.lint_engine.specs.Command.{IsRefused}
 
 either_small : (b : Bool) (x y : ℕ) → x < 2 ^ 5 → y < 2 ^ 5 → cond b x y < 2 ^ 5
 either_small true x y p q = p
@@ -41,7 +39,7 @@ status_small found options =
     either_small _ 0 _ (omega arith)
     (either_small _ _ _ (bits_or_one_small found.messages) (by_score_small options.fail_under found.messages (exact_score found.messages found.statements)))
 
--- words that are read never have the status 32
-pub accepted : (words : List (List ℕ)) (line : Line) (found : Findings) (status : ℕ) → one_word_line words ≡ Ok line → status ≡ status_of found (options_of [] line.edits) → IsRefused words status
-accepted words line found status read is =
-    (λ e. absurd (omega (arith, status_small found (options_of [] line.edits))), λ bad. let never : false ≡ true = subst IsErr read bad in cc)
+-- words and options file that are read never have the status 32
+pub accepted : (settled : SettingsRead) (options : Settings) (found : Findings) (status : ℕ) → settled ≡ Ok options → status ≡ status_of found options → (status ≡ 32) ↔ IsErr settled
+accepted settled options found status read is =
+    (λ e. absurd (omega (arith, status_small found options)), λ bad. let never : false ≡ true = subst IsErr read bad in cc)

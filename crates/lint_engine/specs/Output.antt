@@ -1,31 +1,29 @@
--- What is printed, and the status, by the words, what was read, and what is shown of it.
-use Rattle.std.specs.Prelude.{◌≡◌, ℕ, List, [], Result, Ok, Err}
+-- What is printed, and the status, by the options or the fault of words and options file, what was read, and what is shown of it.
+use Rattle.std.specs.Prelude.{◌≡◌, ℕ, List, [], Ok, Err}
 use Rattle.std.specs.List.{concat}
-use Rattle.options.specs.declared.line.Line.{Line}
-use Rattle.options.specs.declared.usage.UsageFault.{UsageFault}
-use Rattle.options.specs.Settings.{options_of}
-use Rattle.lint_report.specs.declared.outcome.Whole.{Whole}
+use Rattle.file_list.specs.declared.entry.Listed.{Listed}
+use Rattle.options_file.specs.Settings.{SettingsRead}
 use Rattle.lint_report.specs.declared.findings.Findings.{Findings}
 use Rattle.lint_report.specs.Score.{whole_report, status_of}
 use Rattle.lint_report.specs.Usage.{usage_line}
 use Rattle.lint_engine.specs.Shown.{IsShown, nothing}
 
--- what is shown: nothing for words that are refused
-abbrev pub IsShownBy : Result Line UsageFault → Whole → Findings → Type 0
-IsShownBy (Err fault) read found = found ≡ nothing
-IsShownBy (Ok line) read found = IsShown (options_of [] line.edits) read.list found
+-- what is shown: nothing where words or options file are refused
+abbrev pub IsShownBy : SettingsRead → List Listed → Findings → Type 0
+IsShownBy (Err fault) reading found = found ≡ nothing
+IsShownBy (Ok options) reading found = IsShown options reading found
 
--- what is printed on standard output: nothing for words that are refused, and else the report with its score
-abbrev pub output_by : Result Line UsageFault → Whole → Findings → List ℕ
-output_by (Err fault) read found = []
-output_by (Ok line) read found = concat (whole_report read.list found (options_of [] line.edits))
+-- what is printed on standard output: nothing where words or options file are refused, and else the report with its score
+abbrev pub output_by : SettingsRead → List Listed → Findings → List ℕ
+output_by (Err fault) reading found = []
+output_by (Ok options) reading found = concat (whole_report reading found options)
 
 -- what is printed on standard error: the refusal, and else nothing
-abbrev pub error_text_by : Result Line UsageFault → List ℕ
+abbrev pub error_text_by : SettingsRead → List ℕ
 error_text_by (Err fault) = usage_line fault
-error_text_by (Ok line) = []
+error_text_by (Ok options) = []
 
--- the exit status: 32 for words that are refused, and else that of what is shown
-abbrev pub status_by : Result Line UsageFault → Findings → ℕ
+-- the exit status: 32 for a refusal, and else that of what is shown
+abbrev pub status_by : SettingsRead → Findings → ℕ
 status_by (Err fault) found = 32
-status_by (Ok line) found = status_of found (options_of [] line.edits)
+status_by (Ok options) found = status_of found options

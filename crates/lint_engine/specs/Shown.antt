@@ -1,14 +1,16 @@
 -- What is found and shown of a reading, its messages and its statements: a relation, since where a source's first fault stands
 -- is one, and so is which tree its tokens spell.
-use Rattle.std.specs.Prelude.{◌≡◌, ℕ, ◌+◌, List, [], ◌∷◌, ◌++◌, codes}
+use Rattle.std.specs.Prelude.{◌≡◌, ℕ, ◌+◌, List, [], ◌∷◌, ◌++◌, Bool, not, ◌&&◌, ◌||◌, ◌==◌, codes, filter}
 use Rattle.std.specs.Fmt.{decimal}
 use Rattle.lint_values.specs.declared.place.FileId.{FileId}
 use Rattle.lint_values.specs.declared.place.Pos.{Pos}
 use Rattle.lint_messages.specs.declared.code.Code.{Code}
 use Rattle.lint_messages.specs.declared.code.Code.TheVariants.{SyntaxError, Fatal, ParseError}
 use Rattle.lint_messages.specs.declared.message.Message.{Message}
+use Rattle.lint_messages.specs.Codes.{category}
 use Rattle.lint_messages.specs.Order.{in_order}
-use Rattle.options.specs.declared.settings.Options.{Options}
+use Rattle.options.specs.Settings.{Settings}
+use Rattle.options.specs.Switches.{is_on}
 use Rattle.file_list.specs.declared.entry.Entry.{Entry}
 use Rattle.file_list.specs.declared.entry.Entry.TheVariants as entry
 use Rattle.file_list.specs.declared.entry.Listed.{Listed}
@@ -71,32 +73,52 @@ abbrev pub together : Findings → Findings → Findings
 together one other = record { messages = one.messages ++ other.messages; statements = one.statements + other.statements }
 
 -- the messages of a source's lines, of its tokens and of its tree, in their order, and its statements
-abbrev pub found_in : Options → FileId → List ℕ → Tokenized → Tree → Findings
+abbrev pub found_in : Settings → FileId → List ℕ → Tokenized → Tree → Findings
 found_in options file bytes tokens tree =
     record { messages = in_order (source_messages options file bytes ++ tree_messages file tokens tree); statements = statement_count tree }
 
--- What is shown of a file's bytes: one message alone at the first fault of its tokens; where there is none, one at the head of the
+-- What is found in a file's bytes: one message alone at the first fault of its tokens; where there is none, one at the head of the
 -- first line at fault; and where there is none, what is found in the source.
-pub data IsSourceShown (options : Options) (file : FileId) (bytes : List ℕ) (found : Findings) : Type 0 where
-  faulty : (pos : Pos) (cause : TokenCause) → IsFirstFault bytes pos cause → found ≡ alone (syntax_error file pos (reason_of cause)) → IsSourceShown options file bytes found
+pub data IsSourceFound (options : Settings) (file : FileId) (bytes : List ℕ) (found : Findings) : Type 0 where
+  faulty : (pos : Pos) (cause : TokenCause) → IsFirstFault bytes pos cause → found ≡ alone (syntax_error file pos (reason_of cause)) → IsSourceFound options file bytes found
   formless : (tokens : Tokenized) (line : ℕ) (cause : SyntaxCause) → IsTokenized bytes tokens → IsFault tokens line cause
-      → found ≡ alone (syntax_error file (head_of line) (syntax_reason cause)) → IsSourceShown options file bytes found
-  read : (tokens : Tokenized) (tree : Tree) → IsTokenized bytes tokens → Spells tokens tree → found ≡ found_in options file bytes tokens tree → IsSourceShown options file bytes found
+      → found ≡ alone (syntax_error file (head_of line) (syntax_reason cause)) → IsSourceFound options file bytes found
+  read : (tokens : Tokenized) (tree : Tree) → IsTokenized bytes tokens → Spells tokens tree → found ≡ found_in options file bytes tokens tree → IsSourceFound options file bytes found
 
 -- the one message of an entry that was not read, at the head of its file
 abbrev pub unread : FileId → Code → List ℕ → Findings
 unread file code arg = alone (message file 1 0 code (arg ∷ []))
 
--- what is shown of an entry: fatal where nothing is there to be linted, parse-error where it can't be read
-abbrev pub IsEntryShown : Options → FileId → List ℕ → Entry → Findings → Type 0
-IsEntryShown options file path (entry.Source bytes) found = IsSourceShown options file bytes found
-IsEntryShown options file path entry.Missing found = found ≡ unread file Fatal path
-IsEntryShown options file path entry.NoPackage found = found ≡ unread file Fatal path
-IsEntryShown options file path entry.Failed found = found ≡ unread file ParseError (codes "read failed")
-IsEntryShown options file path entry.TooLarge found = found ≡ unread file ParseError (codes "file too large")
-IsEntryShown options file path entry.TooMany found = found ≡ unread file ParseError (codes "too many files")
-IsEntryShown options file path entry.TooDeep found = found ≡ unread file ParseError (codes "folders too deep")
-IsEntryShown options file path entry.TooMuch found = found ≡ unread file ParseError (codes "sources too large")
+-- what is found of an entry: fatal where nothing is there to be linted, parse-error where it can't be read
+abbrev pub IsEntryFound : Settings → FileId → List ℕ → Entry → Findings → Type 0
+IsEntryFound options file path (entry.Source bytes) found = IsSourceFound options file bytes found
+IsEntryFound options file path entry.Missing found = found ≡ unread file Fatal path
+IsEntryFound options file path entry.NoPackage found = found ≡ unread file Fatal path
+IsEntryFound options file path entry.Failed found = found ≡ unread file ParseError (codes "read failed")
+IsEntryFound options file path entry.TooLarge found = found ≡ unread file ParseError (codes "file too large")
+IsEntryFound options file path entry.TooMany found = found ≡ unread file ParseError (codes "too many files")
+IsEntryFound options file path entry.TooDeep found = found ≡ unread file ParseError (codes "folders too deep")
+IsEntryFound options file path entry.TooMuch found = found ≡ unread file ParseError (codes "sources too large")
+
+-- ---- what is shown
+
+-- an error, or a fatal message
+abbrev pub is_error : Code → Bool
+is_error code = category code == 69 || category code == 70
+
+-- the message is shown: it is on, and an error where errors alone are shown
+abbrev pub is_shown : Settings → Message → Bool
+is_shown options message = is_on options.switches message.code && (not options.errors_only || is_error message.code)
+
+-- what the options show of what is found
+abbrev pub shown_of : Settings → Findings → Findings
+shown_of options found = record { messages = filter (is_shown options) found.messages; statements = found.statements }
+
+-- what is shown of an entry: of what is found there, what the options show
+pub record IsEntryShown (options : Settings) (file : FileId) (path : List ℕ) (listed : Entry) (shown : Findings) : Type 0 where
+  pub found : Findings
+  pub of_entry : IsEntryFound options file path listed found
+  pub is : shown ≡ shown_of options found
 
 -- a first part meets one fact and the rest another
 pub record InTwo (First Rest : Findings → Type 0) (found : Findings) : Type 0 where
@@ -107,11 +129,11 @@ pub record InTwo (First Rest : Findings → Type 0) (found : Findings) : Type 0 
   pub of_rest : Rest rest
 
 -- what is shown of these entries, the first of which has this number
-abbrev pub IsShownFrom : Options → ℕ → List Listed → Findings → Type 0
+abbrev pub IsShownFrom : Settings → ℕ → List Listed → Findings → Type 0
 IsShownFrom options number [] found = found ≡ nothing
 IsShownFrom options number (listed ∷ reading) found =
     InTwo (IsEntryShown options (record { 0 = number }) listed.path listed.entry) (IsShownFrom options (number + 1) reading) found
 
 -- what is shown of a reading, in the order of its entries
-abbrev pub IsShown : Options → List Listed → Findings → Type 0
+abbrev pub IsShown : Settings → List Listed → Findings → Type 0
 IsShown options reading found = IsShownFrom options 0 reading found

@@ -1,6 +1,6 @@
 // What is found in an entry.
 ghost use Rattle.std.specs.Prelude.{◌≡◌, ◌<◌, ◌^◌, IfOk};
-ghost use Rattle.lint_engine.specs.Shown.{unread, IsEntryShown};
+ghost use Rattle.lint_engine.specs.Shown.{unread, IsEntryFound};
 ghost use Rattle.file_list.specs.Entries.{HasShortSource};
 
 use crate::messages::{alone, message_at, one_text};
@@ -28,7 +28,7 @@ pub(crate) fn check_entry(
     options: &Options,
 ) -> Result<Findings, Memory>
     requires { HasShortSource listed.now.entry }
-    ensures shown { IfOk result (λ found. IsEntryShown options.now file listed.now.path listed.now.entry found) }
+    ensures found { IfOk result (λ found. IsEntryFound options.now file listed.now.path listed.now.entry found) }
     ensures few { IfOk result (λ found. found.statements < 2 ^ 32) }
 {
     match &listed.entry {

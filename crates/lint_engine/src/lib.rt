@@ -6,6 +6,7 @@ mod entries;
 mod faults;
 mod list;
 mod messages;
+mod shown;
 mod source;
 mod writing;
 
@@ -14,6 +15,7 @@ pub use command::lint_command;
 pub use lint_report;
 pub use lint_report::{Answer, OptionsRead, Outcome, Whole};
 pub use list::lint_list;
+pub use options_file;
 
 #[cfg(test)]
 mod tests;

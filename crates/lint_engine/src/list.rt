@@ -1,8 +1,8 @@
-// What is found in a whole reading.
+// What is shown of a whole reading.
 ghost use Rattle.std.specs.Prelude.{◌≡◌, IfOk};
 ghost use Rattle.lint_engine.specs.Shown.{IsShown};
 
-use crate::entries::check_entry;
+use crate::shown::show_entry;
 use file_list::Reading;
 use lint_base::{FileId, Gate, Memory, Messages};
 use lint_report::Findings;
@@ -25,7 +25,7 @@ pub fn lint_list<R: Threads + Sync, G: Gate>(
     for (i, listed) in reading.entries().iter().enumerate() {
         let file = FileId(i as u32);
         gate.pass(file);
-        let found = check_entry(alloc, file, listed, options)?;
+        let found = show_entry(alloc, file, listed, options)?;
         messages.append(found.messages)?;
         statements += found.statements;
     }

@@ -1,7 +1,7 @@
 // What is found in a file's bytes.
 ghost use Rattle.std.specs.Prelude.{◌≡◌, ◌<◌, ◌^◌, length, IfOk};
 ghost use Rattle.py_token.specs.Tokenized.{IsTokenized};
-ghost use Rattle.lint_engine.specs.Shown.{alone, found_in, head_of, reason_of, syntax_reason, syntax_error, IsSourceShown};
+ghost use Rattle.lint_engine.specs.Shown.{alone, found_in, head_of, reason_of, syntax_reason, syntax_error, IsSourceFound};
 
 use crate::faults::{reason_of, syntax_error, syntax_reason};
 use crate::messages::alone;
@@ -52,7 +52,7 @@ fn check_tokens(
 ) -> Result<Findings, Memory>
     requires tokens { IsTokenized bytes.now tokens.now }
     requires short { length bytes.now < 2 ^ 32 }
-    ensures shown { IfOk result (λ found. IsSourceShown options.now file bytes.now found) }
+    ensures found { IfOk result (λ found. IsSourceFound options.now file bytes.now found) }
     ensures few { IfOk result (λ found. found.statements < 2 ^ 32) }
 {
     match parse(alloc, tokens) {
@@ -72,7 +72,7 @@ pub(crate) fn check_source(
     options: &Options,
 ) -> Result<Findings, Memory>
     requires { length bytes.now < 2 ^ 32 }
-    ensures shown { IfOk result (λ found. IsSourceShown options.now file bytes.now found) }
+    ensures found { IfOk result (λ found. IsSourceFound options.now file bytes.now found) }
     ensures few { IfOk result (λ found. found.statements < 2 ^ 32) }
 {
     match tokenize(alloc, bytes) {

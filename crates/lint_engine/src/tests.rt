@@ -321,58 +321,230 @@ fn what_is_no_source_is_told(rt: HostRuntime) -> Result<(), Fail> {
     runs(&rt, alloc, &["l.py"], &mut files, told, "", 1)
 }
 
-#[test]
-fn words_are_refused(rt: HostRuntime) -> Result<(), Fail> {
-    let alloc = rt.alloc();
-    let none: &[&str] = &[];
-    let rows: [(&[&str], &str); 5] = [
-        (none, "pylint: error: no file given\n"),
+// The files of the rows below.
+fn project(alloc: Global) -> Result<MemFiles, Fail> {
+    let rows: [(&str, &str); 11] = [
+        ("a.py", "\"\"\"Doc.\"\"\"\nX = 1\n"),
+        ("./a.py", "\"\"\"Doc.\"\"\"\nX = 1\n"),
+        ("b.py", "X = 1 \n"),
+        ("t.py", "f(a=1, 2)\n"),
+        ("-E", "\"\"\"Doc.\"\"\"\nX = 1\n"),
+        ("pkg/a.py", "\"\"\"Doc.\"\"\"\nX = 1\n"),
+        ("shop/__init__.py", "\"\"\"Shop.\"\"\"\n"),
+        ("shop/models.py", "\"\"\"Models.\"\"\"\nX = 1\n"),
+        ("shop/views.py", "\"\"\"Views.\"\"\"\nX = 1 \n"),
+        ("x.toml", "= 1"),
         (
-            &["-E", "a.py"],
-            "pylint: error: '-E' is not supported yet\n",
+            "d.toml",
+            "[tool.pylint.main]\njobs = 2\nunknown-thing = 3\n[tool.pylint.\"messages control\"]\ndisable = [\"C0303\", \"missing-module-docstring\"]\n",
         ),
-        (
-            &["a.py", "b.py"],
-            "pylint: error: 'a.py' is not supported yet\n",
-        ),
-        (
-            &["p/a.py"],
-            "pylint: error: 'p/a.py' is not supported yet\n",
-        ),
-        (&["-"], "pylint: error: '-' is not supported yet\n"),
     ];
-    for (words, reported) in rows {
-        let mut files = MemFiles::new(alloc);
-        runs(&rt, alloc, words, &mut files, "", reported, 32)?;
+    let mut files = MemFiles::new(alloc);
+    for (path, text) in rows {
+        files.put_file(alloc, &Text::from_str(alloc, path)?, text.as_bytes())?;
+    }
+    files.put_folder(alloc, &Text::from_str(alloc, "pkg")?)?;
+    files.put_folder(alloc, &Text::from_str(alloc, "shop")?)?;
+    Ok(files)
+}
+
+// What the command prints and answers for these words over the files of a project, with a blank between the words.
+fn runs_project<R: Abort + Threads + Sync>(
+    rt: &R,
+    alloc: Global,
+    words: &str,
+    printed: &str,
+    reported: &str,
+    status: u8,
+) -> Result<(), Fail> {
+    let mut parts = Vec::new(alloc);
+    for word in words.split(' ') {
+        parts.push(word)?;
+    }
+    let mut files = project(alloc)?;
+    runs(rt, alloc, &parts, &mut files, printed, reported, status)
+}
+
+#[test]
+fn words_and_options_file_are_refused(rt: HostRuntime) -> Result<(), Fail> {
+    let alloc = rt.alloc();
+    let rows: [(&str, &str); 8] = [
+        ("-j", "option '-j' needs a value"),
+        ("--jobs=65 a.py", "bad value '--jobs=65'"),
+        ("--nope a.py", "unknown option '--nope'"),
+        ("-", "unknown option '-'"),
+        ("--score=yes", "no file given"),
+        ("--rcfile=x.toml a.py", "'x.toml' is not TOML"),
+        (
+            "--rcfile=none.toml a.py",
+            "options file 'none.toml' not found",
+        ),
+        ("--rcfile=pkg a.py", "options file 'pkg' not found"),
+    ];
+    for (words, reason) in rows {
+        let reported = format!(in alloc; "pylint: error: {reason}\n")?;
+        runs_project(&rt, alloc, words, "", reported.as_str(), 32)?;
     }
     Ok(())
 }
 
 #[test]
-fn a_failing_call_is_told(rt: HostRuntime) -> Result<(), Fail> {
+fn no_words_are_refused(rt: HostRuntime) -> Result<(), Fail> {
     let alloc = rt.alloc();
-    let rows = [
-        (
-            1,
-            "************* Module c.py\nc.py:1:0: F0010: error while code parsing: read failed (parse-error)\n",
-            1,
-            1,
-        ),
-        (
-            2,
-            "************* Module c\nc.py:1:0: F0010: error while code parsing: read failed (parse-error)\n",
-            1,
-            1,
-        ),
-        (3, BEST, 0, 0),
+    let mut files = MemFiles::new(alloc);
+    runs(
+        &rt,
+        alloc,
+        &[],
+        &mut files,
+        "",
+        "pylint: error: no file given\n",
+        32,
+    )
+}
+
+#[test]
+fn a_project_has_its_options_file(rt: HostRuntime) -> Result<(), Fail> {
+    let alloc = rt.alloc();
+    let options = Text::from_str(alloc, "pyproject.toml")?;
+    let mut files = project(alloc)?;
+    files.put_file(alloc, &options, b"[tool.pylint]\njobs = 65\n")?;
+    let told = "pylint: error: bad value 'jobs'\n";
+    runs(&rt, alloc, &["a.py"], &mut files, "", told, 32)?;
+    let large = vec![in alloc; b'\n'; 4_194_305]?;
+    files.put_file(alloc, &options, &large)?;
+    let told = "pylint: error: options file 'pyproject.toml' too large\n";
+    runs(&rt, alloc, &["a.py"], &mut files, "", told, 32)?;
+    files.put_file(alloc, &options, b"[tool.pylint]\ndisable = \"C\"\n")?;
+    runs(&rt, alloc, &["b.py"], &mut files, BEST, "", 0)
+}
+
+#[test]
+fn files_and_folders_are_linted(rt: HostRuntime) -> Result<(), Fail> {
+    let alloc = rt.alloc();
+    for words in [
+        "a.py",
+        "a.py ./a.py",
+        "a.py a.py",
+        "--recursive=yes pkg",
+        "-- -E",
+        "--ignore=views.py shop",
+    ] {
+        runs_project(&rt, alloc, words, BEST, "", 0)?;
+    }
+    let half = "\n-----------------------------------\nYour code has been rated at 5.00/10\n\n";
+    let views =
+        "************* Module shop.views\nshop/views.py:2:5: C0303: Trailing whitespace (trailing-whitespace)\n";
+    let printed = format!(in alloc; "{views}{half}")?;
+    runs_project(&rt, alloc, "shop", printed.as_str(), "", 16)?;
+    runs_project(&rt, alloc, "shop//", printed.as_str(), "", 16)?;
+    let missing =
+        "************* Module none.py\nnone.py:1:0: F0001: No module named none.py (fatal)\n";
+    let printed = format!(in alloc; "{missing}{WORST}")?;
+    runs_project(
+        &rt,
+        alloc,
+        "none.py shop/models.py",
+        printed.as_str(),
+        "",
+        1,
+    )
+}
+
+#[test]
+fn options_hide_messages(rt: HostRuntime) -> Result<(), Fail> {
+    let alloc = rt.alloc();
+    let rows: [(&str, bool, bool, bool, u8); 13] = [
+        ("b.py", true, true, true, 16),
+        ("--disable=C0303 b.py", true, false, true, 16),
+        ("--disable=all --enable=C0303 b.py", false, true, true, 16),
+        ("--enable=C0303 --disable=all b.py", false, true, true, 16),
+        ("--rcfile=d.toml --enable=C0303 b.py", false, true, true, 16),
+        ("-E b.py", false, false, false, 0),
+        ("--exit-zero b.py", true, true, true, 0),
+        ("--score=no b.py", true, true, false, 16),
+        ("-sn -dC0114 b.py", false, true, false, 16),
+        ("--fail-under=0 b.py", true, true, true, 0),
+        ("--fail-under 0.01 b.py", true, true, true, 16),
+        ("--fail-under=0 --fail-on=C0303 b.py", true, true, true, 16),
+        ("--fail-under=0 --fail-on=E b.py", true, true, true, 0),
     ];
-    for (call, printed, status, failures) in rows {
+    let docstring = "b.py:1:0: C0114: Missing module docstring (missing-module-docstring)\n";
+    let blanks = "b.py:1:5: C0303: Trailing whitespace (trailing-whitespace)\n";
+    for (words, has_docstring, has_blanks, has_score, status) in rows {
+        let head = if has_docstring || has_blanks {
+            "************* Module b\n"
+        } else {
+            ""
+        };
+        let first = if has_docstring { docstring } else { "" };
+        let second = if has_blanks { blanks } else { "" };
+        let score = if has_score { WORST } else { "" };
+        let printed = format!(in alloc; "{head}{first}{second}{score}")?;
+        runs_project(&rt, alloc, words, printed.as_str(), "", status)?;
+    }
+    for words in [
+        "--rcfile=d.toml b.py",
+        "--enable=C0303 --disable=C0303,C0114 b.py",
+    ] {
+        runs_project(&rt, alloc, words, BEST, "", 0)?;
+    }
+    let error = syntax_error(alloc, 1, 0, "invalid syntax")?;
+    runs_project(&rt, alloc, "-E t.py", error.as_str(), "", 2)
+}
+
+#[test]
+fn a_failing_read_is_told_in_its_place(rt: HostRuntime) -> Result<(), Fail> {
+    let alloc = rt.alloc();
+    for jobs in ["1", "2", "7"] {
+        let mut held = MemFiles::new(alloc);
+        for path in ["x.py", "y.py", "z.py"] {
+            let path = Text::from_str(alloc, path)?;
+            held.put_file(alloc, &path, b"\"\"\"Doc.\"\"\"\nX = 1 \n")?;
+        }
+        let mut fail = Calls::new(alloc);
+        fail.add(6)?;
+        let mut files = FailingFiles::new(held, fail);
+        let printed = format!(in alloc;
+            "************* Module x\nx.py:2:5: C0303: Trailing whitespace (trailing-whitespace)\n************* Module y\ny.py:1:0: F0010: error while code parsing: read failed (parse-error)\n************* Module z\nz.py:2:5: C0303: Trailing whitespace (trailing-whitespace)\n{WORST}"
+        )?;
+        let words = ["-j", jobs, "x.py", "y.py", "z.py"];
+        runs(&rt, alloc, &words, &mut files, printed.as_str(), "", 17)?;
+    }
+    Ok(())
+}
+
+#[test]
+fn each_failing_call_is_told(rt: HostRuntime) -> Result<(), Fail> {
+    let alloc = rt.alloc();
+    let words = texts(alloc, &["shop"])?;
+    let rows: [(u32, usize, u8); 10] = [
+        (1, 1, 32),
+        (2, 1, 1),
+        (3, 1, 1),
+        (4, 1, 1),
+        (5, 1, 17),
+        (6, 1, 1),
+        (7, 1, 17),
+        (8, 1, 17),
+        (9, 1, 1),
+        (10, 0, 16),
+    ];
+    for (call, failures, status) in rows {
         let mut fail = Calls::new(alloc);
         fail.add(call)?;
-        let held = held(alloc, "c.py", b"\"\"\"Doc.\"\"\"\nX = 1\n")?;
-        let mut files = FailingFiles::new(held, fail);
-        runs(&rt, alloc, &["c.py"], &mut files, printed, "", status)?;
-        assert_eq!(rt; files.failed().len(), failures);
+        let mut files = FailingFiles::new(project(alloc)?, fail);
+        let mut out = MemSink::new(alloc, ROOM)?;
+        let mut err = MemSink::new(alloc, ROOM)?;
+        let outcome = lint_command(
+            &rt, alloc, &words, &mut files, &mut out, &mut err, &OpenGate,
+        );
+        assert_eq!(rt; outcome.answer, Answer::Ran(status), "{call}");
+        assert_eq!(rt;
+            files.failed().len(),
+            if call < 10 { 1 } else { 0 },
+            "{call}"
+        );
     }
     Ok(())
 }
@@ -380,11 +552,16 @@ fn a_failing_call_is_told(rt: HostRuntime) -> Result<(), Fail> {
 #[test]
 fn a_failing_write_leaves_a_first_part(rt: HostRuntime) -> Result<(), Fail> {
     let alloc = rt.alloc();
-    let rows: [(u32, u32, &str); 4] = [
+    let rows: [(u32, u32, &str); 5] = [
         (1, 0, ""),
         (1, 1, "*"),
         (2, 0, "************* Module c\n"),
         (2, 1, "************* Module c\nc"),
+        (
+            3,
+            0,
+            "************* Module c\nc.py:1:0: C0114: Missing module docstring (missing-module-docstring)\n",
+        ),
     ];
     let words = texts(alloc, &["c.py"])?;
     for (write, taken, printed) in rows {

@@ -33,6 +33,21 @@ impl Messages {
         }
     }
 
+    /// Takes messages over, with their memory.
+    pub fn from_vec(messages: Vec<Message>) -> Messages
+        ensures { result ≡ messages.items }
+    {
+        Messages { messages }
+    }
+
+    /// The messages themselves, with their memory.
+    pub fn into_vec(self) -> Vec<Message>
+        ensures { result.items ≡ self }
+    {
+        let Messages { messages } = self;
+        messages
+    }
+
     /// Adds a message behind the others. A refusal gives the message up.
     pub fn push(&mut self, message: Message) -> Result<(), Memory>
         ensures ok { OnOk result (self.new ≡ self.old ++ message ∷ []) }

@@ -1,10 +1,9 @@
 -- The line that a usage fault prints on standard error.
 use Rattle.std.specs.Prelude.{ℕ, List, [], ◌++◌, codes}
 use Rattle.options.specs.declared.usage.UsageFault.{UsageFault}
-use Rattle.options.specs.declared.usage.UsageFault.TheVariants.{NotYet, UnknownOption, NeedsValue, BadValue, NoFile, BadToml, NoRcFile, TooLarge, ReadFault, Memory}
+use Rattle.options.specs.declared.usage.UsageFault.TheVariants.{UnknownOption, NeedsValue, BadValue, NoFile, BadToml, NoRcFile, TooLarge, ReadFault, Memory}
 
 abbrev pub usage_line : UsageFault → List ℕ
-usage_line (NotYet word) = codes "pylint: error: '" ++ (word ++ codes "' is not supported yet\n")
 usage_line (UnknownOption word) = codes "pylint: error: unknown option '" ++ (word ++ codes "'\n")
 usage_line (NeedsValue word) = codes "pylint: error: option '" ++ (word ++ codes "' needs a value\n")
 usage_line (BadValue word) = codes "pylint: error: bad value '" ++ (word ++ codes "'\n")

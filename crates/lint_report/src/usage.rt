@@ -21,12 +21,6 @@ pub fn usage_text(alloc: Global, fault: &UsageFault) -> Result<Text, Memory>
     ensures { IfOk result (λ text. text ≡ usage_line fault.now) }
 {
     match fault {
-        UsageFault::NotYet(word) => Ok(around(
-            alloc,
-            "pylint: error: '",
-            word,
-            "' is not supported yet\n",
-        )?),
         UsageFault::UnknownOption(word) => {
             Ok(around(alloc, "pylint: error: unknown option '", word, "'\n")?)
         }

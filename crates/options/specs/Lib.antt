@@ -3,7 +3,6 @@ pub mod BehindEdits
 pub mod Edits
 pub mod File
 pub mod Lines
-pub mod OneWord
 pub mod Options
 pub mod Seen
 pub mod Settings

@@ -1,11 +1,10 @@
 -- Faults of usage that say something of the words, and the one that does not.
 use Rattle.std.specs.Prelude.{Bool, true, false}
 use Rattle.options.specs.declared.usage.UsageFault.{UsageFault}
-use Rattle.options.specs.declared.usage.UsageFault.TheVariants.{NotYet, UnknownOption, NeedsValue, BadValue, NoFile, BadToml, NoRcFile, TooLarge, ReadFault, Memory}
+use Rattle.options.specs.declared.usage.UsageFault.TheVariants.{UnknownOption, NeedsValue, BadValue, NoFile, BadToml, NoRcFile, TooLarge, ReadFault, Memory}
 
 -- memory ran out
 abbrev pub is_memory : UsageFault → Bool
-is_memory (NotYet word) = false
 is_memory (UnknownOption word) = false
 is_memory (NeedsValue word) = false
 is_memory (BadValue word) = false

@@ -7,8 +7,6 @@ use lint_values::{Memory as OutOfMemory, Text};
 /// What is wrong with the words or the options file. A text is the word, its value, the key or the path.
 #[derive(Debug, Drop)]
 pub enum UsageFault {
-    /// Words that are not read yet: the first of them.
-    NotYet(Text),
     UnknownOption(Text),
     NeedsValue(Text),
     BadValue(Text),

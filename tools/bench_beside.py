@@ -1,0 +1,74 @@
+#!/usr/bin/env python3
+"""Time and memory of this project's pylint beside pylint, flake8 and pyflakes, in one run.
+
+    tools/bench_beside.py PROGRAM [FOLDER ...]
+
+PROGRAM is the built program. Without folders, `asyncio` and five packages at once of Python's own library are linted. Each
+tool is run once over each, with the processor's time (user and system) and the peak of its memory as the system counts
+them. pylint is run twice: with all its messages, and with those alone that this project has. Tools that aren't installed
+are left out. Prints a table in Markdown.
+"""
+import os
+import shutil
+import subprocess
+import sys
+import sysconfig
+
+CODES = "C0114,C0115,C0116,C0301,C0302,C0303,C0304,C0321,C0410,E0001,F0001,F0010,W0107,W0301"
+
+
+def measured(words):
+    """The seconds of processor time and the megabytes of peak memory of one run."""
+    script = (
+        "import resource, subprocess, sys\n"
+        "subprocess.run(sys.argv[1:], stdout=subprocess.DEVNULL, stderr=subprocess.DEVNULL)\n"
+        "used = resource.getrusage(resource.RUSAGE_CHILDREN)\n"
+        "print(used.ru_utime + used.ru_stime, used.ru_maxrss)\n"
+    )
+    told = subprocess.run([sys.executable, "-c", script, *words], capture_output=True, text=True, check=True)
+    seconds, kilobytes = told.stdout.split()
+    return float(seconds), int(kilobytes) / 1024
+
+
+def size_of(folders):
+    """The bytes of the Python files in these folders."""
+    return sum(
+        os.path.getsize(os.path.join(path, name))
+        for folder in folders
+        for path, _, names in os.walk(folder)
+        for name in names
+        if name.endswith(".py")
+    )
+
+
+def tools(program):
+    """Each tool's name and the words before the folders, for those that are installed."""
+    rows = [("this program", [program, "--recursive=yes"])]
+    if shutil.which("pylint"):
+        pylint = shutil.which("pylint")
+        rows.append(("pylint", [pylint, "--recursive=y"]))
+        rows.append(("pylint, the same messages", [pylint, "--recursive=y", "--disable=all", f"--enable={CODES}"]))
+    if shutil.which("flake8"):
+        rows.append(("flake8", [shutil.which("flake8"), "-j1"]))
+    pyflakes = shutil.which("pyflakes") or shutil.which("pyflakes3")
+    if pyflakes:
+        rows.append(("pyflakes", [pyflakes]))
+    return rows
+
+
+def main():
+    program, folders = os.path.abspath(sys.argv[1]), sys.argv[2:]
+    library = sysconfig.get_paths()["stdlib"]
+    inputs = [("asyncio",), ("asyncio", "email", "json", "unittest", "xml")]
+    lists = [folders] if folders else [[os.path.join(library, name) for name in names] for names in inputs]
+    for folders in lists:
+        names = ", ".join(os.path.basename(folder) for folder in folders)
+        print(f"\n{names}: {size_of(folders) / 1e6:.2f} MB\n")
+        print("| tool | time | peak memory |\n|---|---|---|")
+        for name, words in tools(program):
+            seconds, megabytes = measured(words + folders)
+            print(f"| {name} | {seconds:.2f} s | {megabytes:.0f} MB |", flush=True)
+
+
+if __name__ == "__main__":
+    main()
