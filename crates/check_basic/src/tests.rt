@@ -191,44 +191,52 @@ fn tells(
     Ok(())
 }
 
+// A source as a row spells it: `~` stands for a line end and `^` for a tab.
+fn spelled(alloc: Global, row: &str) -> Result<String, Fail> {
+    let mut text = String::new(alloc);
+    for c in row.chars() {
+        text.push(match c {
+            '~' => '\n',
+            '^' => '\t',
+            _ => c,
+        })?;
+    }
+    Ok(text)
+}
+
+// Each row is a source, the nodes of its tree and its messages, between bars.
+fn tell(rt: &impl Abort, alloc: Global, rows: &str) -> Result<(), Fail> {
+    for row in rows.split('\n') {
+        let (source, rest) = row.split_once('|').unwrap_or((row, ""));
+        let (nodes, messages) = rest.split_once('|').unwrap_or((rest, ""));
+        let source = spelled(alloc, source)?;
+        tells(rt, alloc, source.as_str(), nodes, messages)?;
+    }
+    Ok(())
+}
+
+// How many statements, and the nodes of a tree, between bars; the source stands behind them.
+const STATEMENTS: &str = r#"0||
+0|D1000"""Doc."""|"""Doc."""~
+2|D1000"d" n2000x x2001 n2030y x2031|"d"~x; y~
+5|D1000"d" n2030x n3040y x3041 n4050z n4080y x4081 L4002 n5060y x5061 E5001 I2004|"d"~if x:~    y~elif z: y~else: y~
+6|D1000"d" p3040 n4070x p5040 h4002 p7040 E6001 p9040 y8001 T2004|"d"~try:~    pass~except x:~    pass~else:~    pass~finally:~    pass~
+2|D1000"d" D3040"d" p4040 C2002A|"d"~class A:~    "d"~    pass~
+2|D1000"d" n2060x u30901 k3091 n3120y x3121 K3042 M2002|"d"~match x:~    case 1: y~
+5|D1000"d" n2050x x2051 n3070y n3100z x3101 h3002 n4090x x4091 y4001 T2003|"d"~try: x~except y: z~finally: x~
+2|n1000x x1001 s2000"""Doc.""" x2001|x~"""Doc."""~
+4|D1000"d" n3070x n5120x x5121 d4081g I3042 d2001_f|"d"~def _f():~    if x:~        def g():~            x~
+1|D1000"d" l2070a.b.c c2160e l2141d l2220f i2003|"d"~import a.b.c, d as e, f~"#;
+
 #[test]
 fn statements_are_counted(rt: HostRuntime) -> Result<(), Fail> {
-    let rows: [(&str, u64); 11] = [
-        //
-        ("", 0),
-        // """Doc."""\n
-        ("D1000\"\"\"Doc.\"\"\"", 0),
-        // "d"\nx; y\n
-        ("D1000\"d\" n2000x x2001 n2030y x2031", 2),
-        // "d"\nif x:\n    y\nelif z: y\nelse: y\n
-        (
-            "D1000\"d\" n2030x n3040y x3041 n4050z n4080y x4081 L4002 n5060y x5061 E5001 I2004",
-            5,
-        ),
-        // "d"\ntry:\n    pass\nexcept x:\n    pass\nelse:\n    pass\nfinally:\n    pass\n
-        (
-            "D1000\"d\" p3040 n4070x p5040 h4002 p7040 E6001 p9040 y8001 T2004",
-            6,
-        ),
-        // "d"\nclass A:\n    "d"\n    pass\n
-        ("D1000\"d\" D3040\"d\" p4040 C2002A", 2),
-        // "d"\nmatch x:\n    case 1: y\n
-        ("D1000\"d\" n2060x u30901 k3091 n3120y x3121 K3042 M2002", 2),
-        // "d"\ntry: x\nexcept y: z\nfinally: x\n
-        (
-            "D1000\"d\" n2050x x2051 n3070y n3100z x3101 h3002 n4090x x4091 y4001 T2003",
-            5,
-        ),
-        // x\n"""Doc."""\n
-        ("n1000x x1001 s2000\"\"\"Doc.\"\"\" x2001", 2),
-        // "d"\ndef _f():\n    if x:\n        def g():\n            x\n
-        ("D1000\"d\" n3070x n5120x x5121 d4081g I3042 d2001_f", 4),
-        // "d"\nimport a.b.c, d as e, f\n
-        ("D1000\"d\" l2070a.b.c c2160e l2141d l2220f i2003", 1),
-    ];
-    for (nodes, count) in rows {
-        let tree = tree_of(&rt, rt.alloc(), nodes)?;
-        assert_eq!(rt; statements(&tree), count, "{nodes}");
+    let alloc = rt.alloc();
+    for row in STATEMENTS.split('\n') {
+        let (count, rest) = row.split_once('|').unwrap_or((row, ""));
+        let (nodes, _) = rest.split_once('|').unwrap_or((rest, ""));
+        let tree = tree_of(&rt, alloc, nodes)?;
+        let found = format!(in alloc; "{}", statements(&tree))?;
+        assert_eq!(rt; found.as_str(), count, "{row}");
     }
     Ok(())
 }

@@ -9,7 +9,7 @@ use Rattle.std.specs.declared.cmp.Ordering.TheVariants.{Less, Equal, Greater}
 use Rattle.std.specs.Ordering.{nat_cmp, ordering_then, MatchOrdering}
 use Rattle.lint_values.specs.declared.place.NodeId.{NodeId}
 use Rattle.lint_messages.specs.declared.code.Code.{Code}
-use Rattle.lint_messages.specs.declared.code.Code.TheVariants.{MissingModuleDocstring, MissingClassDocstring, MissingFunctionDocstring, LineTooLong, TooManyLines, TrailingWhitespace, MissingFinalNewline, MultipleStatements, MultipleImports, SyntaxError, Fatal, ParseError, UnnecessaryPass, UnnecessarySemicolon}
+use Rattle.lint_messages.specs.declared.code.Code.TheVariants.{MissingModuleDocstring, MissingClassDocstring, MissingFunctionDocstring, LineTooLong, TooManyLines, TrailingWhitespace, MissingFinalNewline, MultipleStatements, MultipleImports, SyntaxError, UndefinedVariable, Fatal, ParseError, TooManyLocals, UnknownOptionValue, UnnecessaryPass, UnnecessarySemicolon, WildcardImport, GlobalStatement, UnusedImport, UnusedVariable, UnusedArgument, RedefinedBuiltin}
 use Rattle.lint_messages.specs.declared.code.TheConstants.{ALL_CODES}
 use Rattle.lint_messages.specs.declared.message.Message.{Message}
 use Rattle.lint_messages.specs.Codes.{letters}
@@ -63,10 +63,19 @@ code_of_letters MissingFinalNewline = refl
 code_of_letters MultipleStatements = refl
 code_of_letters MultipleImports = refl
 code_of_letters SyntaxError = refl
+code_of_letters UndefinedVariable = refl
 code_of_letters Fatal = refl
 code_of_letters ParseError = refl
+code_of_letters TooManyLocals = refl
+code_of_letters UnknownOptionValue = refl
 code_of_letters UnnecessaryPass = refl
 code_of_letters UnnecessarySemicolon = refl
+code_of_letters WildcardImport = refl
+code_of_letters GlobalStatement = refl
+code_of_letters UnusedImport = refl
+code_of_letters UnusedVariable = refl
+code_of_letters UnusedArgument = refl
+code_of_letters RedefinedBuiltin = refl
 
 codes_tied : (a b : Code) → letters a ≡ letters b → a ≡ b
 codes_tied a b e =

@@ -1,7 +1,7 @@
 -- The text of each message: words, with an argument between any two of them.
 use Rattle.std.specs.Prelude.{ℕ, List, [], ◌∷◌, ◌++◌, drop, codes}
 use Rattle.lint_messages.specs.declared.code.Code.{Code}
-use Rattle.lint_messages.specs.declared.code.Code.TheVariants.{MissingModuleDocstring, MissingClassDocstring, MissingFunctionDocstring, LineTooLong, TooManyLines, TrailingWhitespace, MissingFinalNewline, MultipleStatements, MultipleImports, SyntaxError, Fatal, ParseError, UnnecessaryPass, UnnecessarySemicolon}
+use Rattle.lint_messages.specs.declared.code.Code.TheVariants.{MissingModuleDocstring, MissingClassDocstring, MissingFunctionDocstring, LineTooLong, TooManyLines, TrailingWhitespace, MissingFinalNewline, MultipleStatements, MultipleImports, SyntaxError, UndefinedVariable, Fatal, ParseError, TooManyLocals, UnknownOptionValue, UnnecessaryPass, UnnecessarySemicolon, WildcardImport, GlobalStatement, UnusedImport, UnusedVariable, UnusedArgument, RedefinedBuiltin}
 use Rattle.lint_messages.specs.declared.message.Message.{Message}
 
 -- the words of a text
@@ -16,10 +16,19 @@ template MissingFinalNewline = codes "Final newline missing" ∷ []
 template MultipleStatements = codes "More than one statement on a single line" ∷ []
 template MultipleImports = codes "Multiple imports on one line (" ∷ codes ")" ∷ []
 template SyntaxError = codes "Parsing failed: '" ∷ codes " (line " ∷ codes ")'" ∷ []
+template UndefinedVariable = codes "Undefined variable '" ∷ codes "'" ∷ []
 template Fatal = codes "No module named " ∷ [] ∷ []
 template ParseError = codes "error while code parsing: " ∷ [] ∷ []
+template TooManyLocals = codes "Too many local variables (" ∷ codes "/" ∷ codes ")" ∷ []
+template UnknownOptionValue = codes "Unknown option value for '" ∷ codes "', got '" ∷ codes "'" ∷ []
 template UnnecessaryPass = codes "Unnecessary pass statement" ∷ []
 template UnnecessarySemicolon = codes "Unnecessary semicolon" ∷ []
+template WildcardImport = codes "Wildcard import " ∷ [] ∷ []
+template GlobalStatement = codes "Using the global statement" ∷ []
+template UnusedImport = [] ∷ [] ∷ []
+template UnusedVariable = codes "Unused variable '" ∷ codes "'" ∷ []
+template UnusedArgument = codes "Unused argument '" ∷ codes "'" ∷ []
+template RedefinedBuiltin = codes "Redefining built-in '" ∷ codes "'" ∷ []
 
 -- the next argument: a missing one counts as empty
 abbrev pub argument : List (List ℕ) → List ℕ

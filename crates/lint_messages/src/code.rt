@@ -15,14 +15,23 @@ pub enum Code {
     MultipleStatements,
     MultipleImports,
     SyntaxError,
+    UndefinedVariable,
     Fatal,
     ParseError,
+    TooManyLocals,
+    UnknownOptionValue,
     UnnecessaryPass,
     UnnecessarySemicolon,
+    WildcardImport,
+    GlobalStatement,
+    UnusedImport,
+    UnusedVariable,
+    UnusedArgument,
+    RedefinedBuiltin,
 }
 
 /// All codes, in their order.
-pub const ALL_CODES: [Code; 14] = [
+pub const ALL_CODES: [Code; 23] = [
     Code::MissingModuleDocstring,
     Code::MissingClassDocstring,
     Code::MissingFunctionDocstring,
@@ -33,10 +42,19 @@ pub const ALL_CODES: [Code; 14] = [
     Code::MultipleStatements,
     Code::MultipleImports,
     Code::SyntaxError,
+    Code::UndefinedVariable,
     Code::Fatal,
     Code::ParseError,
+    Code::TooManyLocals,
+    Code::UnknownOptionValue,
     Code::UnnecessaryPass,
     Code::UnnecessarySemicolon,
+    Code::WildcardImport,
+    Code::GlobalStatement,
+    Code::UnusedImport,
+    Code::UnusedVariable,
+    Code::UnusedArgument,
+    Code::RedefinedBuiltin,
 ];
 
 impl Code {
@@ -55,10 +73,19 @@ impl Code {
             Code::MultipleStatements => "C0321",
             Code::MultipleImports => "C0410",
             Code::SyntaxError => "E0001",
+            Code::UndefinedVariable => "E0602",
             Code::Fatal => "F0001",
             Code::ParseError => "F0010",
+            Code::TooManyLocals => "R0914",
+            Code::UnknownOptionValue => "W0012",
             Code::UnnecessaryPass => "W0107",
             Code::UnnecessarySemicolon => "W0301",
+            Code::WildcardImport => "W0401",
+            Code::GlobalStatement => "W0603",
+            Code::UnusedImport => "W0611",
+            Code::UnusedVariable => "W0612",
+            Code::UnusedArgument => "W0613",
+            Code::RedefinedBuiltin => "W0622",
         }
     }
 
@@ -77,10 +104,19 @@ impl Code {
             Code::MultipleStatements => "multiple-statements",
             Code::MultipleImports => "multiple-imports",
             Code::SyntaxError => "syntax-error",
+            Code::UndefinedVariable => "undefined-variable",
             Code::Fatal => "fatal",
             Code::ParseError => "parse-error",
+            Code::TooManyLocals => "too-many-locals",
+            Code::UnknownOptionValue => "unknown-option-value",
             Code::UnnecessaryPass => "unnecessary-pass",
             Code::UnnecessarySemicolon => "unnecessary-semicolon",
+            Code::WildcardImport => "wildcard-import",
+            Code::GlobalStatement => "global-statement",
+            Code::UnusedImport => "unused-import",
+            Code::UnusedVariable => "unused-variable",
+            Code::UnusedArgument => "unused-argument",
+            Code::RedefinedBuiltin => "redefined-builtin",
         }
     }
 
@@ -98,9 +134,18 @@ impl Code {
             | Code::MissingFinalNewline
             | Code::MultipleStatements
             | Code::MultipleImports => 'C',
-            Code::SyntaxError => 'E',
+            Code::SyntaxError | Code::UndefinedVariable => 'E',
             Code::Fatal | Code::ParseError => 'F',
-            Code::UnnecessaryPass | Code::UnnecessarySemicolon => 'W',
+            Code::TooManyLocals => 'R',
+            Code::UnknownOptionValue
+            | Code::UnnecessaryPass
+            | Code::UnnecessarySemicolon
+            | Code::WildcardImport
+            | Code::GlobalStatement
+            | Code::UnusedImport
+            | Code::UnusedVariable
+            | Code::UnusedArgument
+            | Code::RedefinedBuiltin => 'W',
         }
     }
 

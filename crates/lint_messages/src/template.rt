@@ -22,10 +22,19 @@ fn template(code: Code) -> &'static [&'static str]
         Code::MultipleStatements => &["More than one statement on a single line"],
         Code::MultipleImports => &["Multiple imports on one line (", ")"],
         Code::SyntaxError => &["Parsing failed: '", " (line ", ")'"],
+        Code::UndefinedVariable => &["Undefined variable '", "'"],
         Code::Fatal => &["No module named ", ""],
         Code::ParseError => &["error while code parsing: ", ""],
+        Code::TooManyLocals => &["Too many local variables (", "/", ")"],
+        Code::UnknownOptionValue => &["Unknown option value for '", "', got '", "'"],
         Code::UnnecessaryPass => &["Unnecessary pass statement"],
         Code::UnnecessarySemicolon => &["Unnecessary semicolon"],
+        Code::WildcardImport => &["Wildcard import ", ""],
+        Code::GlobalStatement => &["Using the global statement"],
+        Code::UnusedImport => &["", ""],
+        Code::UnusedVariable => &["Unused variable '", "'"],
+        Code::UnusedArgument => &["Unused argument '", "'"],
+        Code::RedefinedBuiltin => &["Redefining built-in '", "'"],
     }
 }
 
