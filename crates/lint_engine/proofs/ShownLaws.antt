@@ -1,5 +1,5 @@
 -- What is shown of a reading is there, and nothing else is.
-use Rattle.std.proofs.Common.{◌≡◌, ◌<◌, ◌≤◌, ◌+◌, ℕ, List, [], ◌∷◌, ◌++◌, length, drop, get_or, refl, sym, ap, subst, ◌∙◌, append_assoc, arith}
+use Rattle.std.proofs.Common.{◌≡◌, ◌<◌, ◌≤◌, ◌+◌, ℕ, List, [], ◌∷◌, ◌++◌, length, drop, get_or, true, false, refl, sym, ap, subst, ◌∙◌, append_assoc, arith}
 use Rattle.std.specs.Prelude.{Ok, Err}
 use Rattle.std.specs.List.{AllByRecursion}
 use Rattle.std.proofs.lemmas.List.{drop_more, drop_all, append-nil}
@@ -16,26 +16,32 @@ use Rattle.py_token.specs.FirstFault.{IsFirstFault}
 use Rattle.py_token.specs.Tokenized.{Tokenized, IsTokenized}
 use Rattle.py_token.proofs.OneAnswer.{every_from, every_fault_from}
 use Rattle.tree_nodes.specs.Trees.{Tree}
+use Rattle.pragma_scope.specs.Pragmas.{pragmas_of, skips_file}
 use Rattle.parse_stmt.specs.declared.fault.SyntaxCause.{SyntaxCause}
 use Rattle.parse_stmt.specs.Spelling.{Spells, IsFault}
 use Rattle.parse_stmt.proofs.OneAnswer.{tree-one, fault-one, tree-or-fault}
 use Rattle.lint_report.specs.declared.findings.Findings.{Findings}
 use Rattle.lint_report.specs.declared.outcome.Whole.{Whole}
-use Rattle.lint_engine.specs.Shown.{reason_of, syntax_reason, syntax_error, head_of, nothing, alone, together, found_in, IsSourceFound, faulty, formless, read, shown_of, IsEntryFound, IsEntryShown, InTwo, IsShownFrom, IsShown}
+use Rattle.lint_engine.specs.Shown.{reason_of, syntax_reason, syntax_error, head_of, nothing, alone, together, found_in, shown_by, shown_of, IsSourceShown, faulty, skipped, formless, read, IsEntryShown, InTwo, IsShownFrom, IsShown}
 use Rattle.lint_engine.specs.Output.{IsShownBy}
 use Rattle.lint_engine.specs.Command.{Said, IsDetermined}
 
 -- ---- one source
 
-pub faulty_source : (options : Settings) (file : FileId) (bytes : List ℕ) (pos : Pos) (cause : TokenCause) (found : Findings) → IsFirstFault bytes pos cause → found ≡ alone (syntax_error file pos (reason_of cause)) → IsSourceFound options file bytes found
-faulty_source options file bytes pos cause found first is = faulty pos cause first is
+pub faulty_source : (options : Settings) (file : FileId) (bytes : List ℕ) (pos : Pos) (cause : TokenCause) (shown : Findings) → IsFirstFault bytes pos cause
+    → shown ≡ shown_of options (alone (syntax_error file pos (reason_of cause))) → IsSourceShown options file bytes shown
+faulty_source options file bytes pos cause shown first is = faulty pos cause first is
 
-pub formless_source : (options : Settings) (file : FileId) (bytes : List ℕ) (tokens : Tokenized) (line : ℕ) (cause : SyntaxCause) (found : Findings) → IsTokenized bytes tokens → IsFault tokens line cause
-    → found ≡ alone (syntax_error file (head_of line) (syntax_reason cause)) → IsSourceFound options file bytes found
-formless_source options file bytes tokens line cause found tokenized fault is = formless tokens line cause tokenized fault is
+pub skipped_source : (options : Settings) (file : FileId) (bytes : List ℕ) (tokens : Tokenized) (shown : Findings) → IsTokenized bytes tokens → skips_file tokens ≡ true → shown ≡ nothing → IsSourceShown options file bytes shown
+skipped_source options file bytes tokens shown tokenized skips is = skipped tokens tokenized skips is
 
-pub read_source : (options : Settings) (file : FileId) (bytes : List ℕ) (tokens : Tokenized) (tree : Tree) (found : Findings) → IsTokenized bytes tokens → Spells tokens tree → found ≡ found_in options file bytes tokens tree → IsSourceFound options file bytes found
-read_source options file bytes tokens tree found is spelled e = read tokens tree is spelled e
+pub formless_source : (options : Settings) (file : FileId) (bytes : List ℕ) (tokens : Tokenized) (line : ℕ) (cause : SyntaxCause) (shown : Findings) → IsTokenized bytes tokens → skips_file tokens ≡ false → IsFault tokens line cause
+    → shown ≡ shown_of options (alone (syntax_error file (head_of line) (syntax_reason cause))) → IsSourceShown options file bytes shown
+formless_source options file bytes tokens line cause shown tokenized goes fault is = formless tokens line cause tokenized goes fault is
+
+pub read_source : (options : Settings) (file : FileId) (bytes : List ℕ) (tokens : Tokenized) (tree : Tree) (shown : Findings) → IsTokenized bytes tokens → skips_file tokens ≡ false → Spells tokens tree
+    → shown ≡ shown_by options (pragmas_of tokens tree).rows (found_in options file bytes tokens tree) → IsSourceShown options file bytes shown
+read_source options file bytes tokens tree shown tokenized goes spelled is = read tokens tree tokenized goes spelled is
 
 -- ---- parts behind each other
 
@@ -89,42 +95,53 @@ all_told options reading i found past goes =
 one_tokens : (bytes : List ℕ) (tokens others : Tokenized) → IsTokenized bytes tokens → IsTokenized bytes others → tokens ≡ others
 one_tokens bytes tokens others is was = every_from bytes (Ok tokens) is tt others was
 
-source_only : (options : Settings) (file : FileId) (bytes : List ℕ) (one other : Findings) → IsSourceFound options file bytes one → IsSourceFound options file bytes other → one ≡ other
+-- a file is not both skipped and not
+not_both : (tokens others : Tokenized) → tokens ≡ others → skips_file tokens ≡ true → skips_file others ≡ false → ⊥
+not_both tokens others same skips goes = cc
+
+source_only : (options : Settings) (file : FileId) (bytes : List ℕ) (one other : Findings) → IsSourceShown options file bytes one → IsSourceShown options file bytes other → one ≡ other
 source_only options file bytes one other (faulty p c f e) (faulty q d g h) =
     let same : (p ≡ q) × (c ≡ d) = every_fault_from bytes (Err (At p c)) tt f q d g in
-    e ∙ (λ i. alone (syntax_error file (same.0 i) (reason_of (same.1 i)))) ∙ sym h
-source_only options file bytes one other (faulty p c f e) (formless tokens line cause is fault h) = absurd (every_fault_from bytes (Ok tokens) is tt p c f)
-source_only options file bytes one other (faulty p c f e) (read tokens tree is spelled h) = absurd (every_fault_from bytes (Ok tokens) is tt p c f)
-source_only options file bytes one other (formless tokens line cause is fault e) (faulty q d g h) = absurd (every_fault_from bytes (Ok tokens) is tt q d g)
-source_only options file bytes one other (formless tokens line cause is fault e) (formless others at why was told h) =
+    e ∙ (λ i. shown_of options (alone (syntax_error file (same.0 i) (reason_of (same.1 i))))) ∙ sym h
+source_only options file bytes one other (faulty p c f e) (skipped tokens is skips h) = absurd (every_fault_from bytes (Ok tokens) is tt p c f)
+source_only options file bytes one other (faulty p c f e) (formless tokens line cause is goes fault h) = absurd (every_fault_from bytes (Ok tokens) is tt p c f)
+source_only options file bytes one other (faulty p c f e) (read tokens tree is goes spelled h) = absurd (every_fault_from bytes (Ok tokens) is tt p c f)
+source_only options file bytes one other (skipped tokens is skips e) (faulty q d g h) = absurd (every_fault_from bytes (Ok tokens) is tt q d g)
+source_only options file bytes one other (skipped tokens is skips e) (skipped others was jumps h) = e ∙ sym h
+source_only options file bytes one other (skipped tokens is skips e) (formless others line cause was goes fault h) =
+    absurd (not_both tokens others (one_tokens bytes tokens others is was) skips goes)
+source_only options file bytes one other (skipped tokens is skips e) (read others tree was goes spelled h) =
+    absurd (not_both tokens others (one_tokens bytes tokens others is was) skips goes)
+source_only options file bytes one other (formless tokens line cause is goes fault e) (faulty q d g h) = absurd (every_fault_from bytes (Ok tokens) is tt q d g)
+source_only options file bytes one other (formless tokens line cause is goes fault e) (skipped others was skips h) =
+    absurd (not_both others tokens (one_tokens bytes others tokens was is) skips goes)
+source_only options file bytes one other (formless tokens line cause is goes fault e) (formless others at why was went told h) =
     let same : tokens ≡ others = one_tokens bytes tokens others is was in
     let both : (line ≡ at) × (cause ≡ why) = fault-one others line at cause why (subst (λ t. IsFault t line cause) same fault) told in
-    e ∙ (λ i. alone (syntax_error file (head_of (both.0 i)) (syntax_reason (both.1 i)))) ∙ sym h
-source_only options file bytes one other (formless tokens line cause is fault e) (read others tree was spelled h) =
+    e ∙ (λ i. shown_of options (alone (syntax_error file (head_of (both.0 i)) (syntax_reason (both.1 i))))) ∙ sym h
+source_only options file bytes one other (formless tokens line cause is goes fault e) (read others tree was went spelled h) =
     let same : tokens ≡ others = one_tokens bytes tokens others is was in
     absurd (tree-or-fault others tree line cause spelled (subst (λ t. IsFault t line cause) same fault))
-source_only options file bytes one other (read tokens tree is spelled e) (faulty q d g h) = absurd (every_fault_from bytes (Ok tokens) is tt q d g)
-source_only options file bytes one other (read tokens tree is spelled e) (formless others at why was told h) =
+source_only options file bytes one other (read tokens tree is goes spelled e) (faulty q d g h) = absurd (every_fault_from bytes (Ok tokens) is tt q d g)
+source_only options file bytes one other (read tokens tree is goes spelled e) (skipped others was skips h) =
+    absurd (not_both others tokens (one_tokens bytes others tokens was is) skips goes)
+source_only options file bytes one other (read tokens tree is goes spelled e) (formless others at why was went told h) =
     let same : tokens ≡ others = one_tokens bytes tokens others is was in
     absurd (tree-or-fault others tree at why (subst (λ t. Spells t tree) same spelled) told)
-source_only options file bytes one other (read tokens tree is spelled e) (read others wood was grown h) =
+source_only options file bytes one other (read tokens tree is goes spelled e) (read others wood was went grown h) =
     let same : tokens ≡ others = one_tokens bytes tokens others is was in
     let trees : tree ≡ wood = tree-one others tree wood (subst (λ t. Spells t tree) same spelled) grown in
-    e ∙ (λ i. found_in options file bytes (same i) (trees i)) ∙ sym h
-
-found_only : (options : Settings) (file : FileId) (path : List ℕ) (found : Entry) (one other : Findings) → IsEntryFound options file path found one → IsEntryFound options file path found other → one ≡ other
-found_only options file path (entry.Source bytes) one other e h = source_only options file bytes one other e h
-found_only options file path entry.Missing one other e h = e ∙ sym h
-found_only options file path entry.NoPackage one other e h = e ∙ sym h
-found_only options file path entry.Failed one other e h = e ∙ sym h
-found_only options file path entry.TooLarge one other e h = e ∙ sym h
-found_only options file path entry.TooMany one other e h = e ∙ sym h
-found_only options file path entry.TooDeep one other e h = e ∙ sym h
-found_only options file path entry.TooMuch one other e h = e ∙ sym h
+    e ∙ (λ i. shown_by options (pragmas_of (same i) (trees i)).rows (found_in options file bytes (same i) (trees i))) ∙ sym h
 
 entry_only : (options : Settings) (file : FileId) (path : List ℕ) (listed : Entry) (one other : Findings) → IsEntryShown options file path listed one → IsEntryShown options file path listed other → one ≡ other
-entry_only options file path listed one other e h =
-    e.is ∙ ap (shown_of options) (found_only options file path listed e.found h.found e.of_entry h.of_entry) ∙ sym h.is
+entry_only options file path (entry.Source bytes) one other e h = source_only options file bytes one other e h
+entry_only options file path entry.Missing one other e h = e ∙ sym h
+entry_only options file path entry.NoPackage one other e h = e ∙ sym h
+entry_only options file path entry.Failed one other e h = e ∙ sym h
+entry_only options file path entry.TooLarge one other e h = e ∙ sym h
+entry_only options file path entry.TooMany one other e h = e ∙ sym h
+entry_only options file path entry.TooDeep one other e h = e ∙ sym h
+entry_only options file path entry.TooMuch one other e h = e ∙ sym h
 
 shown_only : (options : Settings) (number : ℕ) (reading : List Listed) (one other : Findings) → IsShownFrom options number reading one → IsShownFrom options number reading other → one ≡ other
 shown_only options number [] one other e h = e ∙ sym h

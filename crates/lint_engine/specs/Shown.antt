@@ -1,11 +1,11 @@
 -- What is found and shown of a reading, its messages and its statements: a relation, since where a source's first fault stands
 -- is one, and so is which tree its tokens spell.
-use Rattle.std.specs.Prelude.{◌≡◌, ℕ, ◌+◌, List, [], ◌∷◌, ◌++◌, Bool, not, ◌&&◌, ◌||◌, ◌==◌, codes, filter}
+use Rattle.std.specs.Prelude.{◌≡◌, ℕ, ◌+◌, List, [], ◌∷◌, ◌++◌, Bool, true, false, not, ◌&&◌, ◌||◌, ◌==◌, codes, filter, map, Option, None, Some}
 use Rattle.std.specs.Fmt.{decimal}
 use Rattle.lint_values.specs.declared.place.FileId.{FileId}
 use Rattle.lint_values.specs.declared.place.Pos.{Pos}
 use Rattle.lint_messages.specs.declared.code.Code.{Code}
-use Rattle.lint_messages.specs.declared.code.Code.TheVariants.{SyntaxError, Fatal, ParseError}
+use Rattle.lint_messages.specs.declared.code.Code.TheVariants.{SyntaxError, Fatal, ParseError, UnknownOptionValue}
 use Rattle.lint_messages.specs.declared.message.Message.{Message}
 use Rattle.lint_messages.specs.Codes.{category}
 use Rattle.lint_messages.specs.Order.{in_order}
@@ -23,6 +23,9 @@ use Rattle.parse_stmt.specs.declared.fault.LineCause.TheVariants.{NoForm, Field}
 use Rattle.parse_stmt.specs.declared.fault.SyntaxCause.{SyntaxCause}
 use Rattle.parse_stmt.specs.declared.fault.SyntaxCause.TheVariants as syntax
 use Rattle.parse_stmt.specs.Spelling.{Spells, IsFault}
+use Rattle.pragma_scope.specs.declared.row.BadName.{BadName}
+use Rattle.pragma_scope.specs.declared.row.Row.{Row}
+use Rattle.pragma_scope.specs.Pragmas.{pragmas_of, skips_file, state_of}
 use Rattle.check_basic.specs.LineRules.{message, source_messages}
 use Rattle.check_basic.specs.TreeRules.{tree_messages, statement_count}
 use Rattle.lint_report.specs.declared.findings.Findings.{Findings}
@@ -72,33 +75,23 @@ alone message = record { messages = message ∷ []; statements = 0 }
 abbrev pub together : Findings → Findings → Findings
 together one other = record { messages = one.messages ++ other.messages; statements = one.statements + other.statements }
 
--- the messages of a source's lines, of its tokens and of its tree, in their order, and its statements
-abbrev pub found_in : Settings → FileId → List ℕ → Tokenized → Tree → Findings
-found_in options file bytes tokens tree =
-    record { messages = in_order (source_messages options file bytes ++ tree_messages file tokens tree); statements = statement_count tree }
+-- unknown-option-value for a name in a pragma that no message can have, at the head of its line
+abbrev pub bad_name_message : FileId → BadName → Message
+bad_name_message file bad = message file bad.line 0 UnknownOptionValue (bad.action ∷ bad.word ∷ [])
 
--- What is found in a file's bytes: one message alone at the first fault of its tokens; where there is none, one at the head of the
--- first line at fault; and where there is none, what is found in the source.
-pub data IsSourceFound (options : Settings) (file : FileId) (bytes : List ℕ) (found : Findings) : Type 0 where
-  faulty : (pos : Pos) (cause : TokenCause) → IsFirstFault bytes pos cause → found ≡ alone (syntax_error file pos (reason_of cause)) → IsSourceFound options file bytes found
-  formless : (tokens : Tokenized) (line : ℕ) (cause : SyntaxCause) → IsTokenized bytes tokens → IsFault tokens line cause
-      → found ≡ alone (syntax_error file (head_of line) (syntax_reason cause)) → IsSourceFound options file bytes found
-  read : (tokens : Tokenized) (tree : Tree) → IsTokenized bytes tokens → Spells tokens tree → found ≡ found_in options file bytes tokens tree → IsSourceFound options file bytes found
+abbrev pub bad_name_messages : FileId → List BadName → List Message
+bad_name_messages file names = map (bad_name_message file) names
+
+-- the messages of a source's lines, of its tokens and tree, and of its pragmas, in their order, and its statements
+abbrev pub found_in : Settings → FileId → List ℕ → Tokenized → Tree → Findings
+found_in options file bytes tokens tree = record {
+  messages = in_order ((source_messages options file bytes ++ tree_messages file tokens tree) ++ bad_name_messages file (pragmas_of tokens tree).bad_names);
+  statements = statement_count tree;
+}
 
 -- the one message of an entry that was not read, at the head of its file
 abbrev pub unread : FileId → Code → List ℕ → Findings
 unread file code arg = alone (message file 1 0 code (arg ∷ []))
-
--- what is found of an entry: fatal where nothing is there to be linted, parse-error where it can't be read
-abbrev pub IsEntryFound : Settings → FileId → List ℕ → Entry → Findings → Type 0
-IsEntryFound options file path (entry.Source bytes) found = IsSourceFound options file bytes found
-IsEntryFound options file path entry.Missing found = found ≡ unread file Fatal path
-IsEntryFound options file path entry.NoPackage found = found ≡ unread file Fatal path
-IsEntryFound options file path entry.Failed found = found ≡ unread file ParseError (codes "read failed")
-IsEntryFound options file path entry.TooLarge found = found ≡ unread file ParseError (codes "file too large")
-IsEntryFound options file path entry.TooMany found = found ≡ unread file ParseError (codes "too many files")
-IsEntryFound options file path entry.TooDeep found = found ≡ unread file ParseError (codes "folders too deep")
-IsEntryFound options file path entry.TooMuch found = found ≡ unread file ParseError (codes "sources too large")
 
 -- ---- what is shown
 
@@ -106,19 +99,48 @@ IsEntryFound options file path entry.TooMuch found = found ≡ unread file Parse
 abbrev pub is_error : Code → Bool
 is_error code = category code == 69 || category code == 70
 
+-- what pragmas say, and where they say nothing, the options
+abbrev pub first_said : Option Bool → Bool → Bool
+first_said None by_options = by_options
+first_said (Some by_pragmas) by_options = by_pragmas
+
+-- the message is on, by the pragmas at its line and then by the options
+abbrev pub is_on_there : Settings → List Row → Message → Bool
+is_on_there options pragmas message = first_said (state_of pragmas message.code message.pos.line) (is_on options.switches message.code)
+
 -- the message is shown: it is on, and an error where errors alone are shown
-abbrev pub is_shown : Settings → Message → Bool
-is_shown options message = is_on options.switches message.code && (not options.errors_only || is_error message.code)
+abbrev pub is_shown : Settings → List Row → Message → Bool
+is_shown options pragmas message = is_on_there options pragmas message && (not options.errors_only || is_error message.code)
 
--- what the options show of what is found
+-- what pragmas and options show of what is found
+abbrev pub shown_by : Settings → List Row → Findings → Findings
+shown_by options pragmas found = record { messages = filter (is_shown options pragmas) found.messages; statements = found.statements }
+
+-- what options alone show of what is found
 abbrev pub shown_of : Settings → Findings → Findings
-shown_of options found = record { messages = filter (is_shown options) found.messages; statements = found.statements }
+shown_of options found = shown_by options [] found
 
--- what is shown of an entry: of what is found there, what the options show
-pub record IsEntryShown (options : Settings) (file : FileId) (path : List ℕ) (listed : Entry) (shown : Findings) : Type 0 where
-  pub found : Findings
-  pub of_entry : IsEntryFound options file path listed found
-  pub is : shown ≡ shown_of options found
+-- What is shown of a file's bytes: one message alone at the first fault of its tokens; nothing where a pragma skips the file; where
+-- no tree is spelled, one message at the head of the first line at fault; and else of what is found in the source, what its pragmas
+-- and the options show.
+pub data IsSourceShown (options : Settings) (file : FileId) (bytes : List ℕ) (shown : Findings) : Type 0 where
+  faulty : (pos : Pos) (cause : TokenCause) → IsFirstFault bytes pos cause → shown ≡ shown_of options (alone (syntax_error file pos (reason_of cause))) → IsSourceShown options file bytes shown
+  skipped : (tokens : Tokenized) → IsTokenized bytes tokens → skips_file tokens ≡ true → shown ≡ nothing → IsSourceShown options file bytes shown
+  formless : (tokens : Tokenized) (line : ℕ) (cause : SyntaxCause) → IsTokenized bytes tokens → skips_file tokens ≡ false → IsFault tokens line cause
+      → shown ≡ shown_of options (alone (syntax_error file (head_of line) (syntax_reason cause))) → IsSourceShown options file bytes shown
+  read : (tokens : Tokenized) (tree : Tree) → IsTokenized bytes tokens → skips_file tokens ≡ false → Spells tokens tree
+      → shown ≡ shown_by options (pragmas_of tokens tree).rows (found_in options file bytes tokens tree) → IsSourceShown options file bytes shown
+
+-- what is shown of an entry: fatal where nothing is there to be linted, parse-error where it can't be read
+abbrev pub IsEntryShown : Settings → FileId → List ℕ → Entry → Findings → Type 0
+IsEntryShown options file path (entry.Source bytes) shown = IsSourceShown options file bytes shown
+IsEntryShown options file path entry.Missing shown = shown ≡ shown_of options (unread file Fatal path)
+IsEntryShown options file path entry.NoPackage shown = shown ≡ shown_of options (unread file Fatal path)
+IsEntryShown options file path entry.Failed shown = shown ≡ shown_of options (unread file ParseError (codes "read failed"))
+IsEntryShown options file path entry.TooLarge shown = shown ≡ shown_of options (unread file ParseError (codes "file too large"))
+IsEntryShown options file path entry.TooMany shown = shown ≡ shown_of options (unread file ParseError (codes "too many files"))
+IsEntryShown options file path entry.TooDeep shown = shown ≡ shown_of options (unread file ParseError (codes "folders too deep"))
+IsEntryShown options file path entry.TooMuch shown = shown ≡ shown_of options (unread file ParseError (codes "sources too large"))
 
 -- a first part meets one fact and the rest another
 pub record InTwo (First Rest : Findings → Type 0) (found : Findings) : Type 0 where

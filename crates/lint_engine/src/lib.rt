@@ -1,6 +1,7 @@
 //! Lints a list of files and reports: the one public call of the program.
 #![tactic(auto)]
 
+mod bad_names;
 mod command;
 mod entries;
 mod faults;

@@ -2,7 +2,7 @@
 ghost use Rattle.std.specs.Prelude.{◌≡◌, IfOk};
 ghost use Rattle.lint_engine.specs.Shown.{IsShown};
 
-use crate::shown::show_entry;
+use crate::entries::show_entry;
 use file_list::Reading;
 use lint_base::{FileId, Gate, Memory, Messages};
 use lint_report::Findings;

@@ -1,7 +1,7 @@
 // One message, and its parts.
 ghost use Rattle.std.specs.Prelude.{◌≡◌, [], ◌∷◌, IfOk};
 ghost use Rattle.check_basic.specs.LineRules.{message};
-ghost use Rattle.lint_engine.specs.Shown.{alone};
+ghost use Rattle.lint_engine.specs.Shown.{alone, nothing};
 
 use lint_base::{Code, FileId, Memory, Message, Messages, Pos, Text, Texts};
 use lint_report::Findings;
@@ -34,6 +34,16 @@ pub(crate) fn one_message(alloc: Global, message: Message) -> Result<Messages, M
     let mut messages = Messages::new(alloc);
     messages.push(message)?;
     Ok(messages)
+}
+
+// No message and no statements.
+pub(crate) fn nothing(alloc: Global) -> Findings
+    ensures { result ≡ nothing }
+{
+    Findings {
+        messages: Messages::new(alloc),
+        statements: 0,
+    }
 }
 
 // One message alone, and no statements.

@@ -1,14 +1,11 @@
-// What the options show of what is found.
-ghost use Rattle.std.specs.Prelude.{◌≡◌, ◌<◌, ◌^◌, filter, IfOk};
-ghost use Rattle.file_list.specs.Entries.{HasShortSource};
-ghost use Rattle.lint_engine.specs.Shown.{is_error, is_shown, shown_of, IsEntryShown};
+// What pragmas and options show of what is found.
+ghost use Rattle.std.specs.Prelude.{◌≡◌, [], filter};
+ghost use Rattle.lint_engine.specs.Shown.{first_said, is_error, is_on_there, is_shown, shown_by, shown_of};
 
-use crate::entries::check_entry;
-use file_list::Listed;
-use lint_base::{Code, FileId, Memory, Message, Messages};
+use lint_base::{Code, Message, Messages};
 use lint_report::Findings;
 use options::Options;
-use std::alloc::Global;
+use pragma_scope::Pragmas;
 
 // An error, or a fatal message.
 fn is_error(code: Code) -> bool
@@ -19,20 +16,43 @@ fn is_error(code: Code) -> bool
 }
 
 fn is_shown(options: &Options, message: &Message) -> bool
-    ensures { result ≡ is_shown options.now message.now }
+    ensures { result ≡ is_shown options.now [] message.now }
 {
     options.on(message.code) && (!options.errors_only || is_error(message.code))
 }
 
-// Drops the messages that are not shown.
+// Whether a message is on, by the pragmas at its line and then by the options.
+fn is_on_there(options: &Options, pragmas: &Pragmas, message: &Message) -> bool
+    ensures { result ≡ is_on_there options.now pragmas.now.rows message.now }
+{
+    match pragmas.state(message.code, message.pos.line) {
+        Some(is_on) => is_on,
+        None => options.on(message.code),
+    }
+}
+
+fn is_shown_there(options: &Options, pragmas: &Pragmas, message: &Message) -> bool
+    ensures { result ≡ is_shown options.now pragmas.now.rows message.now }
+{
+    is_on_there(options, pragmas, message) && (!options.errors_only || is_error(message.code))
+}
+
+// Drops the messages that the options do not show.
 fn keep_shown(options: &Options, messages: &mut Vec<Message>)
-    ensures { messages.new.items ≡ filter (is_shown options.now) messages.old.items }
+    ensures { messages.new.items ≡ filter (is_shown options.now []) messages.old.items }
 {
     messages.retain(|message| is_shown(options, message));
 }
 
-// What is found, without the messages that are not shown.
-fn shown_of(options: &Options, found: Findings) -> Findings
+// Drops the messages that pragmas and options do not show.
+fn keep_shown_there(options: &Options, pragmas: &Pragmas, messages: &mut Vec<Message>)
+    ensures { messages.new.items ≡ filter (is_shown options.now pragmas.now.rows) messages.old.items }
+{
+    messages.retain(|message| is_shown_there(options, pragmas, message));
+}
+
+// What the options alone show of what is found.
+pub(crate) fn shown_of(options: &Options, found: Findings) -> Findings
     ensures { result ≡ shown_of options.now found }
 {
     let Findings {
@@ -47,17 +67,18 @@ fn shown_of(options: &Options, found: Findings) -> Findings
     }
 }
 
-// What is shown of an entry.
-pub(crate) fn show_entry(
-    alloc: Global,
-    file: FileId,
-    listed: &Listed,
-    options: &Options,
-) -> Result<Findings, Memory>
-    requires { HasShortSource listed.now.entry }
-    ensures shown { IfOk result (λ shown. IsEntryShown options.now file listed.now.path listed.now.entry shown) }
-    ensures few { IfOk result (λ shown. shown.statements < 2 ^ 32) }
+// What pragmas and options show of what is found.
+pub(crate) fn shown_by(options: &Options, pragmas: &Pragmas, found: Findings) -> Findings
+    ensures { result ≡ shown_by options.now pragmas.now.rows found }
 {
-    let found = check_entry(alloc, file, listed, options)?;
-    Ok(shown_of(options, found))
+    let Findings {
+        messages,
+        statements,
+    } = found;
+    let mut messages = messages.into_vec();
+    keep_shown_there(options, pragmas, &mut messages);
+    Findings {
+        messages: Messages::from_vec(messages),
+        statements,
+    }
 }

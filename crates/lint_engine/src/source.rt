@@ -1,15 +1,19 @@
-// What is found in a file's bytes.
-ghost use Rattle.std.specs.Prelude.{◌≡◌, ◌<◌, ◌^◌, length, IfOk};
+// What is shown of a file's bytes.
+ghost use Rattle.std.specs.Prelude.{◌≡◌, false, ◌<◌, ◌^◌, length, IfOk};
 ghost use Rattle.py_token.specs.Tokenized.{IsTokenized};
-ghost use Rattle.lint_engine.specs.Shown.{alone, found_in, head_of, reason_of, syntax_reason, syntax_error, IsSourceFound};
+ghost use Rattle.pragma_scope.specs.Pragmas.{pragmas_of, skips_file};
+ghost use Rattle.lint_engine.specs.Shown.{alone, found_in, head_of, reason_of, shown_by, shown_of, syntax_error, syntax_reason, IsSourceShown};
 
+use crate::bad_names::bad_name_messages;
 use crate::faults::{reason_of, syntax_error, syntax_reason};
-use crate::messages::alone;
+use crate::messages::{alone, nothing};
+use crate::shown::{shown_by, shown_of};
 use check_basic::{check_lines, check_tree, statements};
 use lint_base::{FileId, Memory, Pos};
 use lint_report::Findings;
 use options::Options;
 use parse_stmt::{SyntaxFault, parse};
+use pragma_scope::{Pragmas, skip_file};
 use py_token::{TokenFault, Tokens, tokenize};
 use std::alloc::Global;
 use tree_nodes::Tree;
@@ -21,29 +25,82 @@ fn check_parsed(
     bytes: &[u8],
     tokens: &Tokens,
     tree: &Tree,
+    pragmas: &Pragmas,
     options: &Options,
 ) -> Result<Findings, Memory>
-    requires { length bytes.now < 2 ^ 32 }
+    requires pragmas { pragmas.now ≡ pragmas_of tokens.now tree.now }
+    requires short { length bytes.now < 2 ^ 32 }
     ensures found { IfOk result (λ found. found ≡ found_in options.now file bytes.now tokens.now tree.now) }
     ensures few { IfOk result (λ found. found.statements < 2 ^ 32) }
 {
     let mut messages = check_lines(alloc, file, bytes, options)?;
     messages.append(check_tree(alloc, file, tokens, tree, options)?)?;
+    messages.append(bad_name_messages(alloc, file, pragmas.bad_names())?)?;
     Ok(Findings {
         messages: messages.into_order(alloc)?,
         statements: statements(tree),
     })
 }
 
-// One message on a fault of a source.
-fn told(alloc: Global, file: FileId, pos: Pos, reason: &str) -> Result<Findings, Memory>
-    ensures { IfOk result (λ found. found ≡ alone (syntax_error file pos reason.now)) }
+// What is shown of a source that has a tree.
+fn show_parsed(
+    alloc: Global,
+    file: FileId,
+    bytes: &[u8],
+    tokens: &Tokens,
+    tree: &Tree,
+    options: &Options,
+) -> Result<Findings, Memory>
+    requires { length bytes.now < 2 ^ 32 }
+    ensures shown { IfOk result (λ shown. shown ≡ shown_by options.now (pragmas_of tokens.now tree.now).rows (found_in options.now file bytes.now tokens.now tree.now)) }
+    ensures few { IfOk result (λ shown. shown.statements < 2 ^ 32) }
 {
-    Ok(alone(alloc, syntax_error(alloc, file, pos, reason)?)?)
+    let pragmas = Pragmas::read(alloc, tokens, tree)?;
+    let found = check_parsed(alloc, file, bytes, tokens, tree, &pragmas, options)?;
+    Ok(shown_by(options, &pragmas, found))
 }
 
-// What is found in a source that has tokens.
-fn check_tokens(
+// What is shown of the one message on a fault of a source.
+fn told(
+    alloc: Global,
+    file: FileId,
+    pos: Pos,
+    reason: &str,
+    options: &Options,
+) -> Result<Findings, Memory>
+    ensures shown { IfOk result (λ shown. shown ≡ shown_of options.now (alone (syntax_error file pos reason.now))) }
+    ensures few { IfOk result (λ shown. shown.statements < 2 ^ 32) }
+{
+    let found = alone(alloc, syntax_error(alloc, file, pos, reason)?)?;
+    Ok(shown_of(options, found))
+}
+
+// What is shown of a source that has tokens and is not skipped.
+fn show_unskipped(
+    alloc: Global,
+    file: FileId,
+    bytes: &[u8],
+    tokens: &Tokens,
+    options: &Options,
+) -> Result<Findings, Memory>
+    requires tokens { IsTokenized bytes.now tokens.now }
+    requires unskipped { skips_file tokens.now ≡ false }
+    requires short { length bytes.now < 2 ^ 32 }
+    ensures shown { IfOk result (λ shown. IsSourceShown options.now file bytes.now shown) }
+    ensures few { IfOk result (λ shown. shown.statements < 2 ^ 32) }
+{
+    match parse(alloc, tokens) {
+        Ok(tree) => Ok(show_parsed(alloc, file, bytes, tokens, &tree, options)?),
+        Err(SyntaxFault::At { line, cause }) => {
+            let head = Pos { line, col: 0 };
+            Ok(told(alloc, file, head, syntax_reason(cause), options)?)
+        }
+        Err(SyntaxFault::Memory) => Err(Memory),
+    }
+}
+
+// What is shown of a source that has tokens: nothing where a pragma skips the file.
+fn show_tokens(
     alloc: Global,
     file: FileId,
     bytes: &[u8],
@@ -52,32 +109,31 @@ fn check_tokens(
 ) -> Result<Findings, Memory>
     requires tokens { IsTokenized bytes.now tokens.now }
     requires short { length bytes.now < 2 ^ 32 }
-    ensures found { IfOk result (λ found. IsSourceFound options.now file bytes.now found) }
-    ensures few { IfOk result (λ found. found.statements < 2 ^ 32) }
+    ensures shown { IfOk result (λ shown. IsSourceShown options.now file bytes.now shown) }
+    ensures few { IfOk result (λ shown. shown.statements < 2 ^ 32) }
 {
-    match parse(alloc, tokens) {
-        Ok(tree) => Ok(check_parsed(alloc, file, bytes, tokens, &tree, options)?),
-        Err(SyntaxFault::At { line, cause }) => {
-            Ok(told(alloc, file, Pos { line, col: 0 }, syntax_reason(cause))?)
-        }
-        Err(SyntaxFault::Memory) => Err(Memory),
+    if skip_file(tokens) {
+        return Ok(nothing(alloc));
     }
+    show_unskipped(alloc, file, bytes, tokens, options)
 }
 
-// What is found in a file's bytes.
-pub(crate) fn check_source(
+// What is shown of a file's bytes.
+pub(crate) fn show_source(
     alloc: Global,
     file: FileId,
     bytes: &[u8],
     options: &Options,
 ) -> Result<Findings, Memory>
     requires { length bytes.now < 2 ^ 32 }
-    ensures found { IfOk result (λ found. IsSourceFound options.now file bytes.now found) }
-    ensures few { IfOk result (λ found. found.statements < 2 ^ 32) }
+    ensures shown { IfOk result (λ shown. IsSourceShown options.now file bytes.now shown) }
+    ensures few { IfOk result (λ shown. shown.statements < 2 ^ 32) }
 {
     match tokenize(alloc, bytes) {
-        Ok(tokens) => Ok(check_tokens(alloc, file, bytes, &tokens, options)?),
-        Err(TokenFault::At(pos, cause)) => Ok(told(alloc, file, pos, reason_of(cause))?),
+        Ok(tokens) => Ok(show_tokens(alloc, file, bytes, &tokens, options)?),
+        Err(TokenFault::At(pos, cause)) => {
+            Ok(told(alloc, file, pos, reason_of(cause), options)?)
+        }
         Err(TokenFault::Memory) => Err(Memory),
     }
 }

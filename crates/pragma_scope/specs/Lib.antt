@@ -1,0 +1,9 @@
+pub mod Actions
+pub mod Blocks
+pub mod Cursors
+pub mod Kinds
+pub mod LogicalLines
+pub mod Nestings
+pub mod Pragmas
+pub mod Regions
+pub mod Timelines
