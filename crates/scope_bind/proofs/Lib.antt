@@ -1,0 +1,12 @@
+pub mod AskLaws
+pub mod AttributeLaws
+pub mod BuildLaws
+pub mod HomeLaws
+pub mod ListLaws
+pub mod MangleLaws
+pub mod NameLaws
+pub mod OutwardLaws
+pub mod PlaceLaws
+pub mod ScopeLaws
+pub mod SpellLaws
+pub mod TableLaws

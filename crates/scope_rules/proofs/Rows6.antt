@@ -1,0 +1,103 @@
+-- Small programs, and where their reads lead by Python's `symtable`, computed from the definitions: rows that
+-- tools/scope_rows.py writes.
+use Rattle.std.proofs.Common.{◌≡◌, refl, [], ◌∷◌, map}
+use Rattle.std.specs.Prelude.{codes}
+use Rattle.tree_nodes.specs.declared.kind.Kind.TheVariants as kinds
+use Rattle.tree_nodes.specs.Trees.{none, tree, Tree, entries, entry_at}
+use Rattle.scope_rules.specs.declared.scope.Where.TheVariants.{Local, Builtin, Nowhere}
+use Rattle.scope_rules.specs.Kinds.{is_class, is_def, is_comprehension, opens, is_parameter, is_around_def, is_in_body, holds}
+use Rattle.scope_rules.specs.Places.{plain_step, is_first_iterable, step_below, step_from, step, around_by, around, chain_by, chain, outer}
+use Rattle.scope_rules.specs.Mangling.{is_read, begins_private, ends_special, is_private, bare, prefixed, mangled, class_from, read_at, spelled}
+use Rattle.scope_rules.specs.Binding.{is_handler, is_annotated, is_bare_below, is_bare, is_binder, is_as_name, is_alias, is_walrus, before_dot, imported, handled, makes_local_else, makes_local, binds, beyond_comprehensions, own_scope}
+use Rattle.scope_rules.specs.Marks.{some_node, nodes_with}
+use Rattle.scope_rules.specs.Declaring.{is_global, is_nonlocal, local_mark, global_mark, nonlocal_mark, declares_global, declares_nonlocal, has, is_owner, owner_outside, home, binder_mark, in_module, is_local}
+use Rattle.scope_rules.specs.Reading.{is_read_name, is_special, is_builtin, ends_at, end_of, is_near, at_module, answer_at, led_from, resolved, answer_of}
+use Rattle.scope_rules.proofs.Trying.{plain, named}
+
+-- def f(a):
+--     if (n := len(a)) > 1:
+--         return n
+abbrev program0 : Tree
+program0 = record { node = plain kinds.Module; kids = (tree (named kinds.FunctionDef (codes "f")) (tree (named kinds.Parameter (codes "a")) none (tree (plain kinds.If) (tree (plain kinds.Comparison) (tree (named kinds.NamedExpression (codes "n")) (tree (plain kinds.Call) (tree (named kinds.Name (codes "len")) none (tree (named kinds.Name (codes "a")) none none)) none) (tree (plain kinds.Greater) none (tree (named kinds.NumberLiteral (codes "1")) none none))) (tree (plain kinds.Return) (tree (named kinds.Name (codes "n")) none none) none)) none)) none) }
+
+reads0 : map (resolved program0) (7 ∷ 8 ∷ 12 ∷ []) ≡ Builtin ∷ Local (record { 0 = 1 }) ∷ Local (record { 0 = 1 }) ∷ []
+unfolding entries entry_at is_class is_def is_comprehension opens is_parameter is_around_def is_in_body holds plain_step is_first_iterable step_below step_from step around_by around chain_by chain outer is_read begins_private ends_special is_private bare prefixed mangled class_from read_at spelled is_handler is_annotated is_bare_below is_bare is_binder is_as_name is_alias is_walrus before_dot imported handled makes_local_else makes_local binds beyond_comprehensions own_scope some_node nodes_with is_global is_nonlocal local_mark global_mark nonlocal_mark declares_global declares_nonlocal has is_owner owner_outside home binder_mark in_module is_local is_read_name is_special is_builtin ends_at end_of is_near at_module answer_at led_from resolved answer_of
+reads0 = refl
+
+-- def f(a):
+--     with a as b, b as (c, d):
+--         return c, d
+abbrev program1 : Tree
+program1 = record { node = plain kinds.Module; kids = (tree (named kinds.FunctionDef (codes "f")) (tree (named kinds.Parameter (codes "a")) none (tree (plain kinds.With) (tree (plain kinds.WithItem) (tree (named kinds.Name (codes "a")) none (tree (named kinds.NameTarget (codes "b")) none none)) (tree (plain kinds.WithItem) (tree (named kinds.Name (codes "b")) none (tree (plain kinds.TupleTarget) (tree (named kinds.NameTarget (codes "c")) none (tree (named kinds.NameTarget (codes "d")) none none)) none)) (tree (plain kinds.Return) (tree (plain kinds.Tuple) (tree (named kinds.Name (codes "c")) none (tree (named kinds.Name (codes "d")) none none)) none) none))) none)) none) }
+
+reads1 : map (resolved program1) (5 ∷ 8 ∷ 14 ∷ 15 ∷ []) ≡ Local (record { 0 = 1 }) ∷ Local (record { 0 = 1 }) ∷ Local (record { 0 = 1 }) ∷ Local (record { 0 = 1 }) ∷ []
+unfolding entries entry_at is_class is_def is_comprehension opens is_parameter is_around_def is_in_body holds plain_step is_first_iterable step_below step_from step around_by around chain_by chain outer is_read begins_private ends_special is_private bare prefixed mangled class_from read_at spelled is_handler is_annotated is_bare_below is_bare is_binder is_as_name is_alias is_walrus before_dot imported handled makes_local_else makes_local binds beyond_comprehensions own_scope some_node nodes_with is_global is_nonlocal local_mark global_mark nonlocal_mark declares_global declares_nonlocal has is_owner owner_outside home binder_mark in_module is_local is_read_name is_special is_builtin ends_at end_of is_near at_module answer_at led_from resolved answer_of
+reads1 = refl
+
+-- def f():
+--     try:
+--         g()
+--     except E as e:
+--         return e
+--     finally:
+--         e
+abbrev program2 : Tree
+program2 = record { node = plain kinds.Module; kids = (tree (named kinds.FunctionDef (codes "f")) (tree (plain kinds.Try) (tree (plain kinds.ExpressionStatement) (tree (plain kinds.Call) (tree (named kinds.Name (codes "g")) none none) none) (tree (plain kinds.ExceptHandler) (tree (named kinds.Name (codes "E")) none (tree (named kinds.AsName (codes "e")) none (tree (plain kinds.Return) (tree (named kinds.Name (codes "e")) none none) none))) (tree (plain kinds.Finally) (tree (plain kinds.ExpressionStatement) (tree (named kinds.Name (codes "e")) none none) none) none))) none) none) }
+
+reads2 : map (resolved program2) (5 ∷ 7 ∷ 10 ∷ 13 ∷ []) ≡ Nowhere ∷ Nowhere ∷ Local (record { 0 = 1 }) ∷ Local (record { 0 = 1 }) ∷ []
+unfolding entries entry_at is_class is_def is_comprehension opens is_parameter is_around_def is_in_body holds plain_step is_first_iterable step_below step_from step around_by around chain_by chain outer is_read begins_private ends_special is_private bare prefixed mangled class_from read_at spelled is_handler is_annotated is_bare_below is_bare is_binder is_as_name is_alias is_walrus before_dot imported handled makes_local_else makes_local binds beyond_comprehensions own_scope some_node nodes_with is_global is_nonlocal local_mark global_mark nonlocal_mark declares_global declares_nonlocal has is_owner owner_outside home binder_mark in_module is_local is_read_name is_special is_builtin ends_at end_of is_near at_module answer_at led_from resolved answer_of
+reads2 = refl
+
+-- def f():
+--     try:
+--         pass
+--     except* E as e:
+--         e
+abbrev program3 : Tree
+program3 = record { node = plain kinds.Module; kids = (tree (named kinds.FunctionDef (codes "f")) (tree (plain kinds.Try) (tree (plain kinds.Pass) none (tree (plain kinds.ExceptStarHandler) (tree (named kinds.Name (codes "E")) none (tree (named kinds.AsName (codes "e")) none (tree (plain kinds.ExpressionStatement) (tree (named kinds.Name (codes "e")) none none) none))) none)) none) none) }
+
+reads3 : map (resolved program3) (5 ∷ 8 ∷ []) ≡ Nowhere ∷ Local (record { 0 = 1 }) ∷ []
+unfolding entries entry_at is_class is_def is_comprehension opens is_parameter is_around_def is_in_body holds plain_step is_first_iterable step_below step_from step around_by around chain_by chain outer is_read begins_private ends_special is_private bare prefixed mangled class_from read_at spelled is_handler is_annotated is_bare_below is_bare is_binder is_as_name is_alias is_walrus before_dot imported handled makes_local_else makes_local binds beyond_comprehensions own_scope some_node nodes_with is_global is_nonlocal local_mark global_mark nonlocal_mark declares_global declares_nonlocal has is_owner owner_outside home binder_mark in_module is_local is_read_name is_special is_builtin ends_at end_of is_near at_module answer_at led_from resolved answer_of
+reads3 = refl
+
+-- def f():
+--     x = 1
+--     del x
+--     return x
+abbrev program4 : Tree
+program4 = record { node = plain kinds.Module; kids = (tree (named kinds.FunctionDef (codes "f")) (tree (plain kinds.Assign) (tree (named kinds.NameTarget (codes "x")) none (tree (named kinds.NumberLiteral (codes "1")) none none)) (tree (plain kinds.Delete) (tree (named kinds.NameTarget (codes "x")) none none) (tree (plain kinds.Return) (tree (named kinds.Name (codes "x")) none none) none))) none) }
+
+reads4 : map (resolved program4) (8 ∷ []) ≡ Local (record { 0 = 1 }) ∷ []
+unfolding entries entry_at is_class is_def is_comprehension opens is_parameter is_around_def is_in_body holds plain_step is_first_iterable step_below step_from step around_by around chain_by chain outer is_read begins_private ends_special is_private bare prefixed mangled class_from read_at spelled is_handler is_annotated is_bare_below is_bare is_binder is_as_name is_alias is_walrus before_dot imported handled makes_local_else makes_local binds beyond_comprehensions own_scope some_node nodes_with is_global is_nonlocal local_mark global_mark nonlocal_mark declares_global declares_nonlocal has is_owner owner_outside home binder_mark in_module is_local is_read_name is_special is_builtin ends_at end_of is_near at_module answer_at led_from resolved answer_of
+reads4 = refl
+
+-- def f():
+--     x += 1
+--     return x
+abbrev program5 : Tree
+program5 = record { node = plain kinds.Module; kids = (tree (named kinds.FunctionDef (codes "f")) (tree (plain kinds.AugAssign) (tree (named kinds.NameTarget (codes "x")) none (tree (plain kinds.Add) none (tree (named kinds.NumberLiteral (codes "1")) none none))) (tree (plain kinds.Return) (tree (named kinds.Name (codes "x")) none none) none)) none) }
+
+reads5 : map (resolved program5) (7 ∷ []) ≡ Local (record { 0 = 1 }) ∷ []
+unfolding entries entry_at is_class is_def is_comprehension opens is_parameter is_around_def is_in_body holds plain_step is_first_iterable step_below step_from step around_by around chain_by chain outer is_read begins_private ends_special is_private bare prefixed mangled class_from read_at spelled is_handler is_annotated is_bare_below is_bare is_binder is_as_name is_alias is_walrus before_dot imported handled makes_local_else makes_local binds beyond_comprehensions own_scope some_node nodes_with is_global is_nonlocal local_mark global_mark nonlocal_mark declares_global declares_nonlocal has is_owner owner_outside home binder_mark in_module is_local is_read_name is_special is_builtin ends_at end_of is_near at_module answer_at led_from resolved answer_of
+reads5 = refl
+
+-- def f():
+--     a.b = 1
+--     a.c += b
+--     del a.d
+abbrev program6 : Tree
+program6 = record { node = plain kinds.Module; kids = (tree (named kinds.FunctionDef (codes "f")) (tree (plain kinds.Assign) (tree (named kinds.AttributeTarget (codes "b")) (tree (named kinds.Name (codes "a")) none none) (tree (named kinds.NumberLiteral (codes "1")) none none)) (tree (plain kinds.AugAssign) (tree (named kinds.AttributeTarget (codes "c")) (tree (named kinds.Name (codes "a")) none none) (tree (plain kinds.Add) none (tree (named kinds.Name (codes "b")) none none))) (tree (plain kinds.Delete) (tree (named kinds.AttributeTarget (codes "d")) (tree (named kinds.Name (codes "a")) none none) none) none))) none) }
+
+reads6 : map (resolved program6) (4 ∷ 8 ∷ 10 ∷ 13 ∷ []) ≡ Nowhere ∷ Nowhere ∷ Nowhere ∷ Nowhere ∷ []
+unfolding entries entry_at is_class is_def is_comprehension opens is_parameter is_around_def is_in_body holds plain_step is_first_iterable step_below step_from step around_by around chain_by chain outer is_read begins_private ends_special is_private bare prefixed mangled class_from read_at spelled is_handler is_annotated is_bare_below is_bare is_binder is_as_name is_alias is_walrus before_dot imported handled makes_local_else makes_local binds beyond_comprehensions own_scope some_node nodes_with is_global is_nonlocal local_mark global_mark nonlocal_mark declares_global declares_nonlocal has is_owner owner_outside home binder_mark in_module is_local is_read_name is_special is_builtin ends_at end_of is_near at_module answer_at led_from resolved answer_of
+reads6 = refl
+
+-- def f():
+--     (a, [b, *c]) = d
+--     return a, b, c
+abbrev program7 : Tree
+program7 = record { node = plain kinds.Module; kids = (tree (named kinds.FunctionDef (codes "f")) (tree (plain kinds.Assign) (tree (plain kinds.TupleTarget) (tree (named kinds.NameTarget (codes "a")) none (tree (plain kinds.ListTarget) (tree (named kinds.NameTarget (codes "b")) none (tree (plain kinds.StarredTarget) (tree (named kinds.NameTarget (codes "c")) none none) none)) none)) (tree (named kinds.Name (codes "d")) none none)) (tree (plain kinds.Return) (tree (plain kinds.Tuple) (tree (named kinds.Name (codes "a")) none (tree (named kinds.Name (codes "b")) none (tree (named kinds.Name (codes "c")) none none))) none) none)) none) }
+
+reads7 : map (resolved program7) (9 ∷ 12 ∷ 13 ∷ 14 ∷ []) ≡ Nowhere ∷ Local (record { 0 = 1 }) ∷ Local (record { 0 = 1 }) ∷ Local (record { 0 = 1 }) ∷ []
+unfolding entries entry_at is_class is_def is_comprehension opens is_parameter is_around_def is_in_body holds plain_step is_first_iterable step_below step_from step around_by around chain_by chain outer is_read begins_private ends_special is_private bare prefixed mangled class_from read_at spelled is_handler is_annotated is_bare_below is_bare is_binder is_as_name is_alias is_walrus before_dot imported handled makes_local_else makes_local binds beyond_comprehensions own_scope some_node nodes_with is_global is_nonlocal local_mark global_mark nonlocal_mark declares_global declares_nonlocal has is_owner owner_outside home binder_mark in_module is_local is_read_name is_special is_builtin ends_at end_of is_near at_module answer_at led_from resolved answer_of
+reads7 = refl

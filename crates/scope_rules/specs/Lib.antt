@@ -1,0 +1,10 @@
+pub mod Answers
+pub mod Binding
+pub mod Declaring
+pub mod Kinds
+pub mod Laws
+pub mod Mangling
+pub mod Marks
+pub mod Nodes
+pub mod Places
+pub mod Reading
