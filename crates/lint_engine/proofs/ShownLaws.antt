@@ -28,20 +28,20 @@ use Rattle.lint_engine.specs.Command.{Said, IsDetermined}
 
 -- ---- one source
 
-pub faulty_source : (options : Settings) (file : FileId) (bytes : List ℕ) (pos : Pos) (cause : TokenCause) (shown : Findings) → IsFirstFault bytes pos cause
-    → shown ≡ shown_of options (alone (syntax_error file pos (reason_of cause))) → IsSourceShown options file bytes shown
-faulty_source options file bytes pos cause shown first is = faulty pos cause first is
+pub faulty_source : (options : Settings) (reading : List Listed) (file : FileId) (bytes : List ℕ) (pos : Pos) (cause : TokenCause) (shown : Findings) → IsFirstFault bytes pos cause
+    → shown ≡ shown_of options (alone (syntax_error file pos (reason_of cause))) → IsSourceShown options reading file bytes shown
+faulty_source options reading file bytes pos cause shown first is = faulty pos cause first is
 
-pub skipped_source : (options : Settings) (file : FileId) (bytes : List ℕ) (tokens : Tokenized) (shown : Findings) → IsTokenized bytes tokens → skips_file tokens ≡ true → shown ≡ nothing → IsSourceShown options file bytes shown
-skipped_source options file bytes tokens shown tokenized skips is = skipped tokens tokenized skips is
+pub skipped_source : (options : Settings) (reading : List Listed) (file : FileId) (bytes : List ℕ) (tokens : Tokenized) (shown : Findings) → IsTokenized bytes tokens → skips_file tokens ≡ true → shown ≡ nothing → IsSourceShown options reading file bytes shown
+skipped_source options reading file bytes tokens shown tokenized skips is = skipped tokens tokenized skips is
 
-pub formless_source : (options : Settings) (file : FileId) (bytes : List ℕ) (tokens : Tokenized) (line : ℕ) (cause : SyntaxCause) (shown : Findings) → IsTokenized bytes tokens → skips_file tokens ≡ false → IsFault tokens line cause
-    → shown ≡ shown_of options (alone (syntax_error file (head_of line) (syntax_reason cause))) → IsSourceShown options file bytes shown
-formless_source options file bytes tokens line cause shown tokenized goes fault is = formless tokens line cause tokenized goes fault is
+pub formless_source : (options : Settings) (reading : List Listed) (file : FileId) (bytes : List ℕ) (tokens : Tokenized) (line : ℕ) (cause : SyntaxCause) (shown : Findings) → IsTokenized bytes tokens → skips_file tokens ≡ false → IsFault tokens line cause
+    → shown ≡ shown_of options (alone (syntax_error file (head_of line) (syntax_reason cause))) → IsSourceShown options reading file bytes shown
+formless_source options reading file bytes tokens line cause shown tokenized goes fault is = formless tokens line cause tokenized goes fault is
 
-pub read_source : (options : Settings) (file : FileId) (bytes : List ℕ) (tokens : Tokenized) (tree : Tree) (shown : Findings) → IsTokenized bytes tokens → skips_file tokens ≡ false → Spells tokens tree
-    → shown ≡ shown_by options (pragmas_of tokens tree).rows (found_in options file bytes tokens tree) → IsSourceShown options file bytes shown
-read_source options file bytes tokens tree shown tokenized goes spelled is = read tokens tree tokenized goes spelled is
+pub read_source : (options : Settings) (reading : List Listed) (file : FileId) (bytes : List ℕ) (tokens : Tokenized) (tree : Tree) (shown : Findings) → IsTokenized bytes tokens → skips_file tokens ≡ false → Spells tokens tree
+    → shown ≡ shown_by options (pragmas_of tokens tree).rows (found_in options reading file bytes tokens tree) → IsSourceShown options reading file bytes shown
+read_source options reading file bytes tokens tree shown tokenized goes spelled is = read tokens tree tokenized goes spelled is
 
 -- ---- parts behind each other
 
@@ -65,17 +65,17 @@ nothing_together a = (λ i. record { messages = a.messages; statements = zero_ad
 
 -- what is shown goes on with that of the entries that are left
 pub record GoesOn (options : Settings) (reading : List Listed) (i : ℕ) (found : Findings) : Type 0 where
-  pub told : (rest : Findings) → IsShownFrom options i (drop i reading) rest → IsShown options reading (together found rest)
+  pub told : (rest : Findings) → IsShownFrom options reading i (drop i reading) rest → IsShown options reading (together found rest)
 
 pub none_yet : (options : Settings) (reading : List Listed) → GoesOn options reading 0 nothing
 none_yet options reading = record { told = λ rest shown. subst (IsShown options reading) (nothing_together rest) shown }
 
-pub one_more : (options : Settings) (reading : List Listed) (i : ℕ) (listed : Listed) (before found now : Findings) → i < length reading → listed ≡ get_or reading i listed → now ≡ together before found → IsEntryShown options (record { 0 = i }) listed.path listed.entry found → GoesOn options reading i before → GoesOn options reading (i + 1) now
+pub one_more : (options : Settings) (reading : List Listed) (i : ℕ) (listed : Listed) (before found now : Findings) → i < length reading → listed ≡ get_or reading i listed → now ≡ together before found → IsEntryShown options reading (record { 0 = i }) listed.path listed.entry found → GoesOn options reading i before → GoesOn options reading (i + 1) now
 one_more options reading i listed before found now lt at grown shown goes = record {
   told = λ rest left.
       let split : drop i reading ≡ listed ∷ drop (i + 1) reading = drop_more reading i listed lt ∙ ap (λ l. l ∷ drop (i + 1) reading) (sym at) in
-      let both : IsShownFrom options i (listed ∷ drop (i + 1) reading) (together found rest) = record { first = found; rest = rest; is = refl; of_first = shown; of_rest = left } in
-      let here : IsShownFrom options i (drop i reading) (together found rest) = subst (λ entries. IsShownFrom options i entries (together found rest)) (sym split) both in
+      let both : IsShownFrom options reading i (listed ∷ drop (i + 1) reading) (together found rest) = record { first = found; rest = rest; is = refl; of_first = shown; of_rest = left } in
+      let here : IsShownFrom options reading i (drop i reading) (together found rest) = subst (λ entries. IsShownFrom options reading i entries (together found rest)) (sym split) both in
       subst (IsShown options reading) (sym (together_assoc before found rest) ∙ ap (λ all. together all rest) (sym grown)) (goes.told (together found rest) here);
 }
 
@@ -87,7 +87,7 @@ all_rest P xs i x lt all = (subst (AllByRecursion P) (drop_more xs i x lt) all).
 pub all_told : (options : Settings) (reading : List Listed) (i : ℕ) (found : Findings) → length reading ≤ i → GoesOn options reading i found → IsShown options reading found
 all_told options reading i found past goes =
     let none : drop i reading ≡ [] = drop_all i reading past in
-    let left : IsShownFrom options i (drop i reading) nothing = subst (λ entries. IsShownFrom options i entries nothing) (sym none) refl in
+    let left : IsShownFrom options reading i (drop i reading) nothing = subst (λ entries. IsShownFrom options reading i entries nothing) (sym none) refl in
     subst (IsShown options reading) (together_nothing found) (goes.told nothing left)
 
 -- ---- there is one
@@ -99,60 +99,60 @@ one_tokens bytes tokens others is was = every_from bytes (Ok tokens) is tt other
 not_both : (tokens others : Tokenized) → tokens ≡ others → skips_file tokens ≡ true → skips_file others ≡ false → ⊥
 not_both tokens others same skips goes = cc
 
-source_only : (options : Settings) (file : FileId) (bytes : List ℕ) (one other : Findings) → IsSourceShown options file bytes one → IsSourceShown options file bytes other → one ≡ other
-source_only options file bytes one other (faulty p c f e) (faulty q d g h) =
+source_only : (options : Settings) (reading : List Listed) (file : FileId) (bytes : List ℕ) (one other : Findings) → IsSourceShown options reading file bytes one → IsSourceShown options reading file bytes other → one ≡ other
+source_only options reading file bytes one other (faulty p c f e) (faulty q d g h) =
     let same : (p ≡ q) × (c ≡ d) = every_fault_from bytes (Err (At p c)) tt f q d g in
     e ∙ (λ i. shown_of options (alone (syntax_error file (same.0 i) (reason_of (same.1 i))))) ∙ sym h
-source_only options file bytes one other (faulty p c f e) (skipped tokens is skips h) = absurd (every_fault_from bytes (Ok tokens) is tt p c f)
-source_only options file bytes one other (faulty p c f e) (formless tokens line cause is goes fault h) = absurd (every_fault_from bytes (Ok tokens) is tt p c f)
-source_only options file bytes one other (faulty p c f e) (read tokens tree is goes spelled h) = absurd (every_fault_from bytes (Ok tokens) is tt p c f)
-source_only options file bytes one other (skipped tokens is skips e) (faulty q d g h) = absurd (every_fault_from bytes (Ok tokens) is tt q d g)
-source_only options file bytes one other (skipped tokens is skips e) (skipped others was jumps h) = e ∙ sym h
-source_only options file bytes one other (skipped tokens is skips e) (formless others line cause was goes fault h) =
+source_only options reading file bytes one other (faulty p c f e) (skipped tokens is skips h) = absurd (every_fault_from bytes (Ok tokens) is tt p c f)
+source_only options reading file bytes one other (faulty p c f e) (formless tokens line cause is goes fault h) = absurd (every_fault_from bytes (Ok tokens) is tt p c f)
+source_only options reading file bytes one other (faulty p c f e) (read tokens tree is goes spelled h) = absurd (every_fault_from bytes (Ok tokens) is tt p c f)
+source_only options reading file bytes one other (skipped tokens is skips e) (faulty q d g h) = absurd (every_fault_from bytes (Ok tokens) is tt q d g)
+source_only options reading file bytes one other (skipped tokens is skips e) (skipped others was jumps h) = e ∙ sym h
+source_only options reading file bytes one other (skipped tokens is skips e) (formless others line cause was goes fault h) =
     absurd (not_both tokens others (one_tokens bytes tokens others is was) skips goes)
-source_only options file bytes one other (skipped tokens is skips e) (read others tree was goes spelled h) =
+source_only options reading file bytes one other (skipped tokens is skips e) (read others tree was goes spelled h) =
     absurd (not_both tokens others (one_tokens bytes tokens others is was) skips goes)
-source_only options file bytes one other (formless tokens line cause is goes fault e) (faulty q d g h) = absurd (every_fault_from bytes (Ok tokens) is tt q d g)
-source_only options file bytes one other (formless tokens line cause is goes fault e) (skipped others was skips h) =
+source_only options reading file bytes one other (formless tokens line cause is goes fault e) (faulty q d g h) = absurd (every_fault_from bytes (Ok tokens) is tt q d g)
+source_only options reading file bytes one other (formless tokens line cause is goes fault e) (skipped others was skips h) =
     absurd (not_both others tokens (one_tokens bytes others tokens was is) skips goes)
-source_only options file bytes one other (formless tokens line cause is goes fault e) (formless others at why was went told h) =
+source_only options reading file bytes one other (formless tokens line cause is goes fault e) (formless others at why was went told h) =
     let same : tokens ≡ others = one_tokens bytes tokens others is was in
     let both : (line ≡ at) × (cause ≡ why) = fault-one others line at cause why (subst (λ t. IsFault t line cause) same fault) told in
     e ∙ (λ i. shown_of options (alone (syntax_error file (head_of (both.0 i)) (syntax_reason (both.1 i))))) ∙ sym h
-source_only options file bytes one other (formless tokens line cause is goes fault e) (read others tree was went spelled h) =
+source_only options reading file bytes one other (formless tokens line cause is goes fault e) (read others tree was went spelled h) =
     let same : tokens ≡ others = one_tokens bytes tokens others is was in
     absurd (tree-or-fault others tree line cause spelled (subst (λ t. IsFault t line cause) same fault))
-source_only options file bytes one other (read tokens tree is goes spelled e) (faulty q d g h) = absurd (every_fault_from bytes (Ok tokens) is tt q d g)
-source_only options file bytes one other (read tokens tree is goes spelled e) (skipped others was skips h) =
+source_only options reading file bytes one other (read tokens tree is goes spelled e) (faulty q d g h) = absurd (every_fault_from bytes (Ok tokens) is tt q d g)
+source_only options reading file bytes one other (read tokens tree is goes spelled e) (skipped others was skips h) =
     absurd (not_both others tokens (one_tokens bytes others tokens was is) skips goes)
-source_only options file bytes one other (read tokens tree is goes spelled e) (formless others at why was went told h) =
+source_only options reading file bytes one other (read tokens tree is goes spelled e) (formless others at why was went told h) =
     let same : tokens ≡ others = one_tokens bytes tokens others is was in
     absurd (tree-or-fault others tree at why (subst (λ t. Spells t tree) same spelled) told)
-source_only options file bytes one other (read tokens tree is goes spelled e) (read others wood was went grown h) =
+source_only options reading file bytes one other (read tokens tree is goes spelled e) (read others wood was went grown h) =
     let same : tokens ≡ others = one_tokens bytes tokens others is was in
     let trees : tree ≡ wood = tree-one others tree wood (subst (λ t. Spells t tree) same spelled) grown in
-    e ∙ (λ i. shown_by options (pragmas_of (same i) (trees i)).rows (found_in options file bytes (same i) (trees i))) ∙ sym h
+    e ∙ (λ i. shown_by options (pragmas_of (same i) (trees i)).rows (found_in options reading file bytes (same i) (trees i))) ∙ sym h
 
-entry_only : (options : Settings) (file : FileId) (path : List ℕ) (listed : Entry) (one other : Findings) → IsEntryShown options file path listed one → IsEntryShown options file path listed other → one ≡ other
-entry_only options file path (entry.Source bytes) one other e h = source_only options file bytes one other e h
-entry_only options file path entry.Missing one other e h = e ∙ sym h
-entry_only options file path entry.NoPackage one other e h = e ∙ sym h
-entry_only options file path entry.Failed one other e h = e ∙ sym h
-entry_only options file path entry.TooLarge one other e h = e ∙ sym h
-entry_only options file path entry.TooMany one other e h = e ∙ sym h
-entry_only options file path entry.TooDeep one other e h = e ∙ sym h
-entry_only options file path entry.TooMuch one other e h = e ∙ sym h
+entry_only : (options : Settings) (reading : List Listed) (file : FileId) (path : List ℕ) (listed : Entry) (one other : Findings) → IsEntryShown options reading file path listed one → IsEntryShown options reading file path listed other → one ≡ other
+entry_only options reading file path (entry.Source bytes) one other e h = source_only options reading file bytes one other e h
+entry_only options reading file path entry.Missing one other e h = e ∙ sym h
+entry_only options reading file path entry.NoPackage one other e h = e ∙ sym h
+entry_only options reading file path entry.Failed one other e h = e ∙ sym h
+entry_only options reading file path entry.TooLarge one other e h = e ∙ sym h
+entry_only options reading file path entry.TooMany one other e h = e ∙ sym h
+entry_only options reading file path entry.TooDeep one other e h = e ∙ sym h
+entry_only options reading file path entry.TooMuch one other e h = e ∙ sym h
 
-shown_only : (options : Settings) (number : ℕ) (reading : List Listed) (one other : Findings) → IsShownFrom options number reading one → IsShownFrom options number reading other → one ≡ other
-shown_only options number [] one other e h = e ∙ sym h
-shown_only options number (listed ∷ reading) one other e h =
-    let first : e.first ≡ h.first = entry_only options (record { 0 = number }) listed.path listed.entry e.first h.first e.of_first h.of_first in
-    let rest : e.rest ≡ h.rest = shown_only options (number + 1) reading e.rest h.rest e.of_rest h.of_rest in
+shown_only : (options : Settings) (reading : List Listed) (number : ℕ) (left : List Listed) (one other : Findings) → IsShownFrom options reading number left one → IsShownFrom options reading number left other → one ≡ other
+shown_only options reading number [] one other e h = e ∙ sym h
+shown_only options reading number (listed ∷ left) one other e h =
+    let first : e.first ≡ h.first = entry_only options reading (record { 0 = number }) listed.path listed.entry e.first h.first e.of_first h.of_first in
+    let rest : e.rest ≡ h.rest = shown_only options reading (number + 1) left e.rest h.rest e.of_rest h.of_rest in
     e.is ∙ (λ i. together (first i) (rest i)) ∙ sym h.is
 
 by_settings : (settled : SettingsRead) (reading : List Listed) (one other : Findings) → IsShownBy settled reading one → IsShownBy settled reading other → one ≡ other
 by_settings (Err fault) reading one other e h = e ∙ sym h
-by_settings (Ok options) reading one other e h = shown_only options 0 reading one other e h
+by_settings (Ok options) reading one other e h = shown_only options reading 0 reading one other e h
 
 pub determined : (said : Said) (whole : Whole) → IsDetermined said whole
 determined said whole = by_settings (settings_of said whole.options) whole.list

@@ -28,6 +28,7 @@ use Rattle.pragma_scope.specs.declared.row.Row.{Row}
 use Rattle.pragma_scope.specs.Pragmas.{pragmas_of, skips_file, state_of}
 use Rattle.check_basic.specs.LineRules.{message, source_messages}
 use Rattle.check_basic.specs.TreeRules.{tree_messages, statement_count}
+use Rattle.check_names.specs.NameRules.{is_package_file, name_messages}
 use Rattle.lint_report.specs.declared.findings.Findings.{Findings}
 
 -- why a source can't be read as tokens
@@ -82,10 +83,15 @@ bad_name_message file bad = message file bad.line 0 UnknownOptionValue (bad.acti
 abbrev pub bad_name_messages : FileId → List BadName → List Message
 bad_name_messages file names = map (bad_name_message file) names
 
--- the messages of a source's lines, of its tokens and tree, and of its pragmas, in their order, and its statements
-abbrev pub found_in : Settings → FileId → List ℕ → Tokenized → Tree → Findings
-found_in options file bytes tokens tree = record {
-  messages = in_order ((source_messages options file bytes ++ tree_messages file tokens tree) ++ bad_name_messages file (pragmas_of tokens tree).bad_names);
+-- the messages of a source's lines, of its tokens and tree, and of its names
+abbrev pub rule_messages : Settings → List Listed → FileId → List ℕ → Tokenized → Tree → List Message
+rule_messages options reading file bytes tokens tree =
+    (source_messages options file bytes ++ tree_messages file tokens tree) ++ name_messages options file (is_package_file reading file) tree
+
+-- those messages and those of its pragmas, in their order, and its statements
+abbrev pub found_in : Settings → List Listed → FileId → List ℕ → Tokenized → Tree → Findings
+found_in options reading file bytes tokens tree = record {
+  messages = in_order (rule_messages options reading file bytes tokens tree ++ bad_name_messages file (pragmas_of tokens tree).bad_names);
   statements = statement_count tree;
 }
 
@@ -123,24 +129,24 @@ shown_of options found = shown_by options [] found
 -- What is shown of a file's bytes: one message alone at the first fault of its tokens; nothing where a pragma skips the file; where
 -- no tree is spelled, one message at the head of the first line at fault; and else of what is found in the source, what its pragmas
 -- and the options show.
-pub data IsSourceShown (options : Settings) (file : FileId) (bytes : List ℕ) (shown : Findings) : Type 0 where
-  faulty : (pos : Pos) (cause : TokenCause) → IsFirstFault bytes pos cause → shown ≡ shown_of options (alone (syntax_error file pos (reason_of cause))) → IsSourceShown options file bytes shown
-  skipped : (tokens : Tokenized) → IsTokenized bytes tokens → skips_file tokens ≡ true → shown ≡ nothing → IsSourceShown options file bytes shown
+pub data IsSourceShown (options : Settings) (reading : List Listed) (file : FileId) (bytes : List ℕ) (shown : Findings) : Type 0 where
+  faulty : (pos : Pos) (cause : TokenCause) → IsFirstFault bytes pos cause → shown ≡ shown_of options (alone (syntax_error file pos (reason_of cause))) → IsSourceShown options reading file bytes shown
+  skipped : (tokens : Tokenized) → IsTokenized bytes tokens → skips_file tokens ≡ true → shown ≡ nothing → IsSourceShown options reading file bytes shown
   formless : (tokens : Tokenized) (line : ℕ) (cause : SyntaxCause) → IsTokenized bytes tokens → skips_file tokens ≡ false → IsFault tokens line cause
-      → shown ≡ shown_of options (alone (syntax_error file (head_of line) (syntax_reason cause))) → IsSourceShown options file bytes shown
+      → shown ≡ shown_of options (alone (syntax_error file (head_of line) (syntax_reason cause))) → IsSourceShown options reading file bytes shown
   read : (tokens : Tokenized) (tree : Tree) → IsTokenized bytes tokens → skips_file tokens ≡ false → Spells tokens tree
-      → shown ≡ shown_by options (pragmas_of tokens tree).rows (found_in options file bytes tokens tree) → IsSourceShown options file bytes shown
+      → shown ≡ shown_by options (pragmas_of tokens tree).rows (found_in options reading file bytes tokens tree) → IsSourceShown options reading file bytes shown
 
 -- what is shown of an entry: fatal where nothing is there to be linted, parse-error where it can't be read
-abbrev pub IsEntryShown : Settings → FileId → List ℕ → Entry → Findings → Type 0
-IsEntryShown options file path (entry.Source bytes) shown = IsSourceShown options file bytes shown
-IsEntryShown options file path entry.Missing shown = shown ≡ shown_of options (unread file Fatal path)
-IsEntryShown options file path entry.NoPackage shown = shown ≡ shown_of options (unread file Fatal path)
-IsEntryShown options file path entry.Failed shown = shown ≡ shown_of options (unread file ParseError (codes "read failed"))
-IsEntryShown options file path entry.TooLarge shown = shown ≡ shown_of options (unread file ParseError (codes "file too large"))
-IsEntryShown options file path entry.TooMany shown = shown ≡ shown_of options (unread file ParseError (codes "too many files"))
-IsEntryShown options file path entry.TooDeep shown = shown ≡ shown_of options (unread file ParseError (codes "folders too deep"))
-IsEntryShown options file path entry.TooMuch shown = shown ≡ shown_of options (unread file ParseError (codes "sources too large"))
+abbrev pub IsEntryShown : Settings → List Listed → FileId → List ℕ → Entry → Findings → Type 0
+IsEntryShown options reading file path (entry.Source bytes) shown = IsSourceShown options reading file bytes shown
+IsEntryShown options reading file path entry.Missing shown = shown ≡ shown_of options (unread file Fatal path)
+IsEntryShown options reading file path entry.NoPackage shown = shown ≡ shown_of options (unread file Fatal path)
+IsEntryShown options reading file path entry.Failed shown = shown ≡ shown_of options (unread file ParseError (codes "read failed"))
+IsEntryShown options reading file path entry.TooLarge shown = shown ≡ shown_of options (unread file ParseError (codes "file too large"))
+IsEntryShown options reading file path entry.TooMany shown = shown ≡ shown_of options (unread file ParseError (codes "too many files"))
+IsEntryShown options reading file path entry.TooDeep shown = shown ≡ shown_of options (unread file ParseError (codes "folders too deep"))
+IsEntryShown options reading file path entry.TooMuch shown = shown ≡ shown_of options (unread file ParseError (codes "sources too large"))
 
 -- a first part meets one fact and the rest another
 pub record InTwo (First Rest : Findings → Type 0) (found : Findings) : Type 0 where
@@ -150,12 +156,12 @@ pub record InTwo (First Rest : Findings → Type 0) (found : Findings) : Type 0 
   pub of_first : First first
   pub of_rest : Rest rest
 
--- what is shown of these entries, the first of which has this number
-abbrev pub IsShownFrom : Settings → ℕ → List Listed → Findings → Type 0
-IsShownFrom options number [] found = found ≡ nothing
-IsShownFrom options number (listed ∷ reading) found =
-    InTwo (IsEntryShown options (record { 0 = number }) listed.path listed.entry) (IsShownFrom options (number + 1) reading) found
+-- what is shown of these entries of a reading, the first of which has this number
+abbrev pub IsShownFrom : Settings → List Listed → ℕ → List Listed → Findings → Type 0
+IsShownFrom options reading number [] found = found ≡ nothing
+IsShownFrom options reading number (listed ∷ left) found =
+    InTwo (IsEntryShown options reading (record { 0 = number }) listed.path listed.entry) (IsShownFrom options reading (number + 1) left) found
 
 -- what is shown of a reading, in the order of its entries
 abbrev pub IsShown : Settings → List Listed → Findings → Type 0
-IsShown options reading found = IsShownFrom options 0 reading found
+IsShown options reading found = IsShownFrom options reading 0 reading found

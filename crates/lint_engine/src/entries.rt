@@ -6,7 +6,7 @@ ghost use Rattle.file_list.specs.Entries.{HasShortSource};
 use crate::messages::{alone, message_at, one_text};
 use crate::shown::shown_of;
 use crate::source::show_source;
-use file_list::{Entry, Listed};
+use file_list::{Entry, Listed, Reading};
 use lint_base::{Code, FileId, Memory, Pos};
 use lint_report::Findings;
 use options::Options;
@@ -33,15 +33,16 @@ fn unread(
 pub(crate) fn show_entry(
     alloc: Global,
     file: FileId,
+    reading: &Reading,
     listed: &Listed,
     options: &Options,
 ) -> Result<Findings, Memory>
     requires { HasShortSource listed.now.entry }
-    ensures shown { IfOk result (λ shown. IsEntryShown options.now file listed.now.path listed.now.entry shown) }
+    ensures shown { IfOk result (λ shown. IsEntryShown options.now reading.now file listed.now.path listed.now.entry shown) }
     ensures few { IfOk result (λ shown. shown.statements < 2 ^ 32) }
 {
     match &listed.entry {
-        Entry::Source(bytes) => Ok(show_source(alloc, file, bytes.as_slice(), options)?),
+        Entry::Source(bytes) => Ok(show_source(alloc, file, reading, bytes.as_slice(), options)?),
         Entry::Missing | Entry::NoPackage => {
             let path = listed.path.as_str();
             Ok(unread(alloc, file, Code::Fatal, path, options)?)

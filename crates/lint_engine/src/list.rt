@@ -25,7 +25,7 @@ pub fn lint_list<R: Threads + Sync, G: Gate>(
     for (i, listed) in reading.entries().iter().enumerate() {
         let file = FileId(i as u32);
         gate.pass(file);
-        let found = show_entry(alloc, file, listed, options)?;
+        let found = show_entry(alloc, file, reading, listed, options)?;
         messages.append(found.messages)?;
         statements += found.statements;
     }

@@ -10,6 +10,7 @@ use std::thread::Threads;
 
 mod failing;
 mod limits;
+mod names;
 mod pragmas;
 mod sources;
 mod words;

@@ -10,13 +10,13 @@ fn syntax_error(alloc: Global, line: u32, col: u32, reason: &str) -> Result<Stri
     )?)
 }
 
-// A docstring, and on a line of their own so many brackets, a name between them, and as many closed.
+// A docstring, and on a line of their own so many brackets, a number between them, and as many closed.
 fn nested(alloc: Global, depth: usize) -> Result<Vec<u8>, Fail> {
     let mut source = Vec::from_slice(alloc, b"\"\"\"Doc.\"\"\"\n")?;
     for _ in 0..depth {
         source.push(b'(')?;
     }
-    source.push(b'x')?;
+    source.push(b'0')?;
     for _ in 0..depth {
         source.push(b')')?;
     }
@@ -48,13 +48,13 @@ fn brackets_may_nest_so_deep(rt: HostRuntime) -> Result<(), Fail> {
     runs(&rt, alloc, &["t.py"], &mut files, printed.as_str(), "", 2)
 }
 
-// A docstring, and on a line of their own so many `not` and a name.
+// A docstring, and on a line of their own so many `not` and a number.
 fn denied(alloc: Global, times: usize) -> Result<Vec<u8>, Fail> {
     let mut source = Vec::from_slice(alloc, b"\"\"\"Doc.\"\"\"\n")?;
     for _ in 0..times {
         source.extend_from_slice(b"not ")?;
     }
-    source.extend_from_slice(b"x\n")?;
+    source.extend_from_slice(b"0\n")?;
     Ok(source)
 }
 

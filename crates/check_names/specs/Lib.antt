@@ -1,0 +1,10 @@
+pub mod Globals
+pub mod Guards
+pub mod Kinds
+pub mod Locals
+pub mod NameRules
+pub mod Nodes
+pub mod Redefined
+pub mod Rules
+pub mod Undefined
+pub mod Wildcards

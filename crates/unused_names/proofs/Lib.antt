@@ -1,0 +1,9 @@
+pub mod Asks
+pub mod Cases
+pub mod FirstBinders
+pub mod Homes
+pub mod Lists
+pub mod Names
+pub mod Sets
+pub mod Unders
+pub mod Words

@@ -1,0 +1,7 @@
+use Rattle.scope_rules.specs.Nodes.{below}
+use Rattle.unused_names.specs.AnnotationWords.{quoted_among}
+use Rattle.unused_names.specs.Sets.{HasNames}
+use Rattle.unused_names.proofs.quoted.quoted_under.Given as goal
+
+abbrev pub invariant-loop-n : goal.invariant-loop-n
+invariant-loop-n l = HasNames l.names (quoted_among l.tree (below l.n))

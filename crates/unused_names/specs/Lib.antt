@@ -1,0 +1,13 @@
+pub mod AnnotationWords
+pub mod Arguments
+pub mod Exempt
+pub mod Exports
+pub mod Imports
+pub mod Kinds
+pub mod Knowledge
+pub mod Literals
+pub mod Nodes
+pub mod Reads
+pub mod Sets
+pub mod UnusedRules
+pub mod Variables
