@@ -19,6 +19,8 @@ import subprocess
 import sys
 import sysconfig
 
+from library_files import files_below
+
 ROOT = os.path.dirname(os.path.dirname(os.path.realpath(__file__)))
 PROGRAM = os.path.join(ROOT, "crates/pylint/out/pylint")
 CODES = "E0602,W0611,W0612"
@@ -302,14 +304,6 @@ def cause_of(tool, side, place):
 
 # ---- the run
 
-def files_below(folders):
-    """The files of some folders, without tests and installed packages."""
-    for top in folders:
-        for folder, below, names in os.walk(top):
-            below[:] = sorted(name for name in below if name not in LEFT_OUT)
-            yield from (os.path.join(folder, name) for name in sorted(names) if name.endswith(".py"))
-
-
 def tools():
     """The other tools that are installed, how each is called and how its report is read."""
     for name, words, read in (
@@ -344,7 +338,7 @@ def main():
     if not os.path.exists(PROGRAM) or not all(map(os.path.isdir, folders)):
         print("skipped: the program or the library is missing")
         return 0
-    paths = list(files_below(folders))
+    paths = list(files_below(folders, LEFT_OUT))
     ours = list(of_pylint(report([PROGRAM, "--disable=all", f"--enable={CODES}", "--score=n"], paths)))
     print(f"{len(paths)} files, {len(ours)} places here")
     return 1 if sum(compare(name, ours, list(read(report(words, paths))), is_listing) for name, words, read in tools()) else 0

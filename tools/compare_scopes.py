@@ -18,6 +18,7 @@ import sysconfig
 import warnings
 
 import scope_trees
+from library_files import files_below
 
 ROOT = os.path.dirname(os.path.dirname(os.path.realpath(__file__)))
 PROGRAM = os.path.join(ROOT, "crates/list_scopes/out/list_scopes")
@@ -232,17 +233,6 @@ def compare_files(paths):
         counts += done.counts
         differences += done.differences
     return counts, differences
-
-
-def files_below(folders):
-    """All .py files below these folders."""
-    for top in folders:
-        for folder, below, names in os.walk(top):
-            below.sort()
-            for name in sorted(names):
-                path = os.path.join(folder, name)
-                if name.endswith(".py") and os.path.isfile(path):
-                    yield path
 
 
 def main():

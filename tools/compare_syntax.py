@@ -19,6 +19,8 @@ import sysconfig
 import tokenize
 import warnings
 
+from library_files import files_below
+
 ROOT = os.path.dirname(os.path.dirname(os.path.realpath(__file__)))
 PROGRAM = os.path.join(ROOT, "crates/pylint/out/pylint")
 
@@ -90,17 +92,6 @@ def verdict(path):
         if words.search(theirs or ours):
             return "rule: " + rule, ours, theirs
     return "difference", ours, theirs
-
-
-def files_below(folders):
-    """All .py files below these folders."""
-    for top in folders:
-        for folder, below, names in os.walk(top):
-            below.sort()
-            for name in sorted(names):
-                path = os.path.join(folder, name)
-                if name.endswith(".py") and not name.startswith("-") and os.path.isfile(path):
-                    yield path
 
 
 def main():
