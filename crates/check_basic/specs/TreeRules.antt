@@ -7,6 +7,8 @@ use Rattle.lint_messages.specs.declared.code.Code.{Code}
 use Rattle.lint_messages.specs.declared.code.Code.TheVariants.{MissingModuleDocstring, MissingClassDocstring, MissingFunctionDocstring, MultipleImports, UnnecessaryPass}
 use Rattle.lint_messages.specs.declared.message.Message.{Message}
 use Rattle.lint_messages.specs.Order.{in_order}
+use Rattle.options.specs.declared.settings.Options.{Options}
+use Rattle.flow_rules.specs.FlowRules.{flow_messages}
 use Rattle.tree_nodes.specs.Trees.{Tree, kids_at}
 use Rattle.py_token.specs.Tokenized.{Tokenized}
 use Rattle.check_basic.specs.Kinds.{is_counted, is_module_root, is_class, is_function, is_import, is_pass}
@@ -85,12 +87,13 @@ abbrev pub nodes_messages : FileId → Tree → List ℕ → List Message
 nodes_messages file t ns = flat_map (node_messages file t) ns
 
 -- the messages of a tree and its tokens, as they are found
-abbrev pub tree_found : FileId → Tokenized → Tree → List Message
-tree_found file read t = nodes_messages file t (nodes t) ++ (multiple_statements file read t ++ unnecessary_semicolons file read)
+abbrev pub tree_found : Options → FileId → Tokenized → Tree → List Message
+tree_found options file read t =
+    nodes_messages file t (nodes t) ++ (multiple_statements file read t ++ (unnecessary_semicolons file read ++ flow_messages options file t))
 
 -- the messages of a tree and its tokens, in their order
-abbrev pub tree_messages : FileId → Tokenized → Tree → List Message
-tree_messages file read t = in_order (tree_found file read t)
+abbrev pub tree_messages : Options → FileId → Tokenized → Tree → List Message
+tree_messages options file read t = in_order (tree_found options file read t)
 
 -- how many of these nodes count as statements: simple and compound ones, and the clauses that count as one
 abbrev pub count_among : Tree → List ℕ → ℕ

@@ -10,6 +10,7 @@ use crate::imports::check_import;
 use crate::kinds::is_counted;
 use crate::logical::{check_multiple_statements, check_semicolons};
 use crate::passes::check_passes;
+use flow_rules::check_flow;
 use lint_messages::Messages;
 use lint_values::{FileId, Memory, NodeId};
 use options::Options;
@@ -52,14 +53,15 @@ pub fn check_tree(
     file: FileId,
     tokens: &Tokens,
     tree: &Tree,
-    _options: &Options,
+    options: &Options,
 ) -> Result<Messages, Memory>
-    ensures { IfOk result (λ messages. messages ≡ tree_messages file tokens.now tree.now) }
+    ensures { IfOk result (λ messages. messages ≡ tree_messages options.now file tokens.now tree.now) }
 {
     let mut found = Messages::new(alloc);
     check_nodes(alloc, file, tree, &mut found)?;
     check_multiple_statements(alloc, file, tokens, tree, &mut found)?;
     check_semicolons(alloc, file, tokens, &mut found)?;
+    found.append(check_flow(alloc, file, tree, options)?)?;
     Ok(found.into_order(alloc)?)
 }
 

@@ -86,7 +86,7 @@ bad_name_messages file names = map (bad_name_message file) names
 -- the messages of a source's lines, of its tokens and tree, and of its names
 abbrev pub rule_messages : Settings → List Listed → FileId → List ℕ → Tokenized → Tree → List Message
 rule_messages options reading file bytes tokens tree =
-    (source_messages options file bytes ++ tree_messages file tokens tree) ++ name_messages options file (is_package_file reading file) tree
+    (source_messages options file bytes ++ tree_messages options file tokens tree) ++ name_messages options file (is_package_file reading file) tree
 
 -- those messages and those of its pragmas, in their order, and its statements
 abbrev pub found_in : Settings → List Listed → FileId → List ℕ → Tokenized → Tree → Findings

@@ -9,6 +9,7 @@ use std::test::Fail;
 use std::thread::Threads;
 
 mod failing;
+mod flow;
 mod limits;
 mod names;
 mod pragmas;

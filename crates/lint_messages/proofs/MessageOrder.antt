@@ -9,7 +9,7 @@ use Rattle.std.specs.declared.cmp.Ordering.TheVariants.{Less, Equal, Greater}
 use Rattle.std.specs.Ordering.{nat_cmp, ordering_then, MatchOrdering}
 use Rattle.lint_values.specs.declared.place.NodeId.{NodeId}
 use Rattle.lint_messages.specs.declared.code.Code.{Code}
-use Rattle.lint_messages.specs.declared.code.Code.TheVariants.{MissingModuleDocstring, MissingClassDocstring, MissingFunctionDocstring, LineTooLong, TooManyLines, TrailingWhitespace, MissingFinalNewline, MultipleStatements, MultipleImports, SyntaxError, UndefinedVariable, Fatal, ParseError, TooManyLocals, UnknownOptionValue, UnnecessaryPass, UnnecessarySemicolon, WildcardImport, GlobalStatement, UnusedImport, UnusedVariable, UnusedArgument, RedefinedBuiltin}
+use Rattle.lint_messages.specs.declared.code.Code.TheVariants.{MissingModuleDocstring, MissingClassDocstring, MissingFunctionDocstring, LineTooLong, TooManyLines, TrailingWhitespace, MissingFinalNewline, MultipleStatements, MultipleImports, SyntaxError, FunctionRedefined, NotInLoop, ReturnOutsideFunction, InconsistentMro, DuplicateBases, UndefinedVariable, NoNameInModule, NoMember, NoValueForParameter, TooManyFunctionArgs, UnexpectedKeywordArg, RedundantKeywordArg, Fatal, ParseError, TooManyAncestors, TooManyInstanceAttributes, TooFewPublicMethods, TooManyPublicMethods, TooManyReturnStatements, TooManyBranches, TooManyArguments, TooManyLocals, TooManyStatements, UnknownOptionValue, Unreachable, DangerousDefaultValue, UnnecessaryPass, AttributeDefinedOutsideInit, SuperInitNotCalled, UnnecessarySemicolon, WildcardImport, GlobalStatement, UnusedImport, UnusedVariable, UnusedArgument, RedefinedBuiltin, BareExcept}
 use Rattle.lint_messages.specs.declared.code.TheConstants.{ALL_CODES}
 use Rattle.lint_messages.specs.declared.message.Message.{Message}
 use Rattle.lint_messages.specs.Codes.{letters}
@@ -63,12 +63,35 @@ code_of_letters MissingFinalNewline = refl
 code_of_letters MultipleStatements = refl
 code_of_letters MultipleImports = refl
 code_of_letters SyntaxError = refl
+code_of_letters FunctionRedefined = refl
+code_of_letters NotInLoop = refl
+code_of_letters ReturnOutsideFunction = refl
+code_of_letters InconsistentMro = refl
+code_of_letters DuplicateBases = refl
 code_of_letters UndefinedVariable = refl
+code_of_letters NoNameInModule = refl
+code_of_letters NoMember = refl
+code_of_letters NoValueForParameter = refl
+code_of_letters TooManyFunctionArgs = refl
+code_of_letters UnexpectedKeywordArg = refl
+code_of_letters RedundantKeywordArg = refl
 code_of_letters Fatal = refl
 code_of_letters ParseError = refl
+code_of_letters TooManyAncestors = refl
+code_of_letters TooManyInstanceAttributes = refl
+code_of_letters TooFewPublicMethods = refl
+code_of_letters TooManyPublicMethods = refl
+code_of_letters TooManyReturnStatements = refl
+code_of_letters TooManyBranches = refl
+code_of_letters TooManyArguments = refl
 code_of_letters TooManyLocals = refl
+code_of_letters TooManyStatements = refl
 code_of_letters UnknownOptionValue = refl
+code_of_letters Unreachable = refl
+code_of_letters DangerousDefaultValue = refl
 code_of_letters UnnecessaryPass = refl
+code_of_letters AttributeDefinedOutsideInit = refl
+code_of_letters SuperInitNotCalled = refl
 code_of_letters UnnecessarySemicolon = refl
 code_of_letters WildcardImport = refl
 code_of_letters GlobalStatement = refl
@@ -76,6 +99,7 @@ code_of_letters UnusedImport = refl
 code_of_letters UnusedVariable = refl
 code_of_letters UnusedArgument = refl
 code_of_letters RedefinedBuiltin = refl
+code_of_letters BareExcept = refl
 
 codes_tied : (a b : Code) → letters a ≡ letters b → a ≡ b
 codes_tied a b e =

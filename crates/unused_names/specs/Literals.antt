@@ -32,7 +32,7 @@ within_quotes bs = if is_tripled bs then within 3 bs else within 1 bs
 abbrev pub text_of : List ℕ → List ℕ
 text_of literal = within_quotes (without_prefix literal)
 
--- the words of a text: what stands between characters that are in no name. It is nothing where two of these stand side
--- by side, or one at an end
+-- the words of a text: what stands between characters that are in no name. Where two of these stand side by side, or one
+-- at an end, that is an empty word, which names nothing
 unfoldable pub words_of : List ℕ → List (List ℕ)
 words_of text = slice_split (λ b. not (is_name_byte b)) text

@@ -19,7 +19,7 @@ fn name_rows<R: Abort + Threads + Sync>(rt: &R, alloc: Global, rows: &str) -> Re
 }
 
 // The messages under the line of their module, or nothing where there is none.
-fn module_lines(alloc: Global, told: &[u8]) -> Result<String, Fail> {
+pub(super) fn module_lines(alloc: Global, told: &[u8]) -> Result<String, Fail> {
     let told = str::from_utf8(told).unwrap_or("");
     if told.is_empty() {
         return Ok(String::new(alloc));

@@ -1,0 +1,12 @@
+pub mod BareExcept
+pub mod Codes
+pub mod FlowRules
+pub mod Kinds
+pub mod Loops
+pub mod Nodes
+pub mod Outwards
+pub mod Redefined
+pub mod Returns
+pub mod Sizes
+pub mod Tables
+pub mod Unreachable
