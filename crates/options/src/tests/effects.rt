@@ -17,12 +17,16 @@ fn edits(alloc: Global, words: &str) -> Result<Edits, Fail> {
     }
 }
 
-// The letters of the codes that are on.
+// The codes that the rows speak of.
+const SPOKEN_OF: &str =
+    "C0114 C0115 C0116 C0301 C0302 C0303 C0304 C0321 C0410 E0001 E0602 F0001 F0010 R0914 W0012 W0107 W0301 W0401 W0603 W0611 W0612 W0613 W0622";
+
+// The letters of those codes that are on.
 fn on(alloc: Global, file: &str, line: &str) -> Result<String, Fail> {
     let options = Options::of(alloc, &edits(alloc, file)?, &edits(alloc, line)?)?;
     let mut out = String::new(alloc);
     for code in &ALL_CODES {
-        if options.on(*code) {
+        if SPOKEN_OF.contains(code.letters()) && options.on(*code) {
             out.push_str(code.letters())?;
             out.push_str(" ")?;
         }
