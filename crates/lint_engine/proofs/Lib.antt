@@ -1,3 +1,4 @@
+pub mod MadeReports
 pub mod Outcomes
 pub mod ReadFrom
 pub mod ShownLaws

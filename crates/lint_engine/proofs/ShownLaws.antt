@@ -1,6 +1,6 @@
 -- What is shown of a reading is there, and nothing else is.
-use Rattle.std.proofs.Common.{◌≡◌, ◌<◌, ◌≤◌, ◌+◌, ℕ, List, [], ◌∷◌, ◌++◌, length, drop, get_or, true, false, refl, sym, ap, subst, ◌∙◌, append_assoc, arith}
-use Rattle.std.specs.Prelude.{Ok, Err}
+use Rattle.std.proofs.Common.{◌≡◌, ◌<◌, ◌≤◌, ◌+◌, ℕ, List, [], ◌∷◌, length, drop, get_or, true, false, refl, sym, ap, subst, ◌∙◌, append_assoc, arith}
+use Rattle.std.specs.Prelude.{Option, Ok, Err}
 use Rattle.std.specs.List.{AllByRecursion}
 use Rattle.std.proofs.lemmas.List.{drop_more, drop_all, append-nil}
 use Rattle.lint_values.specs.declared.place.FileId.{FileId}
@@ -22,9 +22,9 @@ use Rattle.parse_stmt.specs.Spelling.{Spells, IsFault}
 use Rattle.parse_stmt.proofs.OneAnswer.{tree-one, fault-one, tree-or-fault}
 use Rattle.lint_report.specs.declared.findings.Findings.{Findings}
 use Rattle.lint_report.specs.declared.outcome.Whole.{Whole}
-use Rattle.lint_engine.specs.Shown.{reason_of, syntax_reason, syntax_error, head_of, nothing, alone, together, found_in, shown_by, shown_of, IsSourceShown, faulty, skipped, formless, read, IsEntryShown, InTwo, IsShownFrom, IsShown}
-use Rattle.lint_engine.specs.Output.{IsShownBy}
-use Rattle.lint_engine.specs.Command.{Said, IsDetermined}
+use Rattle.lint_engine.specs.Shown.{reason_of, syntax_reason, syntax_error, head_of, nothing, alone, together, found_in, shown_by, shown_of, IsSourceShown, faulty, skipped, formless, read, IsEntryShown, IsShownFrom, IsShown}
+use Rattle.lint_engine.specs.Output.{IsShownBy, linted}
+use Rattle.lint_engine.specs.Command.{Said, IsDetermined, generate_of}
 
 -- ---- one source
 
@@ -150,9 +150,9 @@ shown_only options reading number (listed ∷ left) one other e h =
     let rest : e.rest ≡ h.rest = shown_only options reading (number + 1) left e.rest h.rest e.of_rest h.of_rest in
     e.is ∙ (λ i. together (first i) (rest i)) ∙ sym h.is
 
-by_settings : (settled : SettingsRead) (reading : List Listed) (one other : Findings) → IsShownBy settled reading one → IsShownBy settled reading other → one ≡ other
-by_settings (Err fault) reading one other e h = e ∙ sym h
-by_settings (Ok options) reading one other e h = shown_only options reading 0 reading one other e h
+by_settings : (generate : Option ℕ) (settled : SettingsRead) (reading : List Listed) (one other : Findings) → IsShownBy generate settled reading one → IsShownBy generate settled reading other → one ≡ other
+by_settings generate (Err fault) reading one other e h = e ∙ sym h
+by_settings generate (Ok options) reading one other e h = shown_only options (linted generate reading) 0 (linted generate reading) one other e h
 
 pub determined : (said : Said) (whole : Whole) → IsDetermined said whole
-determined said whole = by_settings (settings_of said whole.options) whole.list
+determined said whole = by_settings (generate_of said) (settings_of said whole.options) whole.list

@@ -1,5 +1,5 @@
 -- The status of what is shown is below 32, the status of a refusal.
-use Rattle.std.proofs.Common.{◌≡◌, ◌<◌, ◌↔◌, ◌^◌, ℕ, Bool, true, false, cond, List, [], ◌∷◌, subst, sym, ◌∙◌, arith, bit_or}
+use Rattle.std.proofs.Common.{◌≡◌, ◌<◌, ◌↔◌, ◌^◌, ℕ, Bool, true, false, cond, List, [], ◌∷◌, subst, arith, bit_or}
 use Rattle.std.specs.List.{fold}
 use Rattle.std.specs.Prelude.{Ok, IsErr, Option, Some, None}
 use Rattle.std.proofs.lemmas.Nat.{or_lt}

@@ -1,5 +1,5 @@
 // The whole of a run: from the words to what is printed and the status.
-ghost use Rattle.std.specs.Prelude.{◌≡◌, ◌⊎◌, Ok, false, [], IfOk, OnOk, OnErr, count_by};
+ghost use Rattle.std.specs.Prelude.{◌≡◌, ◌⊎◌, Ok, None, false, [], IfOk, OnOk, OnErr, count_by};
 ghost use Rattle.std.specs.List.{concat};
 ghost use Rattle.std.specs.Option.{ForSome};
 ghost use Rattle.lint_outside.specs.Causes.{Rose, RoseBy};
@@ -13,6 +13,7 @@ ghost use Rattle.lint_engine.specs.Answers.{OnRan, OnSinkFault, OnMemory, OnWrit
 ghost use Rattle.lint_engine.specs.Command.{IsRun, IsDetermined, IsStopped, IsUnwritten, IsReadFrom, IsInOrder, HasReadCauses, IsRefused, IsReport, IsPrinted, IsPartPrinted, failures};
 
 use crate::list::lint_list;
+use crate::made::lint_made;
 use crate::writing::write_lines;
 use file_list::{Reading, gather};
 use lint_base::{Files, Gate, Memory, Sink, SinkFault, Text, Texts};
@@ -24,9 +25,9 @@ use std::thread::Threads;
 
 // A report that is ready to be written.
 #[derive(Drop)]
-struct Report {
-    lines: Texts,
-    status: u8,
+pub(crate) struct Report {
+    pub(crate) lines: Texts,
+    pub(crate) status: u8,
 }
 
 // Lints a reading, and makes its report.
@@ -37,7 +38,7 @@ fn report_of<R: Threads + Sync, G: Gate>(
     reading: &Reading,
     gate: &G,
 ) -> Result<Report, Memory>
-    ensures { IfOk result (λ made. IsReport options.now reading.now made.lines made.status) }
+    ensures { IfOk result (λ made. IsReport None options.now reading.now made.lines made.status) }
 {
     let found = lint_list(rt, alloc, reading, options, gate)?;
     let lines = scored_text(alloc, reading, &found, options)?;
@@ -47,7 +48,7 @@ fn report_of<R: Threads + Sync, G: Gate>(
     })
 }
 
-fn write_report<O: Sink>(out: &mut O, made: &Report) -> Answer
+pub(crate) fn write_report<O: Sink>(out: &mut O, made: &Report) -> Answer
     ensures status { OnRan result (λ status. status ≡ made.now.status) }
     ensures text { OnRan result (λ _. Appends (O.written out.old) (O.written out.new) (concat made.now.lines)) }
     ensures cause { OnSinkFault result (Rose (O.faults out.old) (O.faults out.new)) }
@@ -81,8 +82,8 @@ fn refuse<E: Sink>(alloc: Global, fault: &UsageFault, err: &mut E) -> Answer
     }
 }
 
-// The options file alone was read, and no files.
-fn no_files(alloc: Global, options: OptionsRead) -> Whole
+// The options file alone was read, or not even that, and no files.
+pub(crate) fn no_files(alloc: Global, options: OptionsRead) -> Whole
     ensures list { result.list ≡ [] }
     ensures options { result.options ≡ options }
 {
@@ -103,9 +104,9 @@ fn lint_files<R: Threads + Sync, F: Files, O: Sink, G: Gate>(
     out: &mut O,
     gate: &G,
 ) -> Outcome
-    ensures printed { OnRan result.answer (IsPrinted options.now result.read.list (O.written out.old) (O.written out.new)) }
+    ensures printed { OnRan result.answer (IsPrinted None options.now result.read.list (O.written out.old) (O.written out.new)) }
     ensures cause { OnSinkFault result.answer (Rose (O.faults out.old) (O.faults out.new)) }
-    ensures part { OnSinkFault result.answer (IsPartPrinted options.now result.read.list (O.written out.old) (O.written out.new)) }
+    ensures part { OnSinkFault result.answer (IsPartPrinted None options.now result.read.list (O.written out.old) (O.written out.new)) }
     ensures nothing { OnMemory result.answer (O.written out.new ≡ O.written out.old) }
     ensures read { ForSome (F.held files.old) (λ tree. OnWritten result.answer (IsReadingOf tree (F.failed files.old) (F.failed files.new) (F.faults files.old) (F.faults files.new) options.now args.now result.read.list)) }
     ensures failed { RoseBy (count_by is_failed result.read.list) (F.faults files.old) (F.faults files.new) }
@@ -141,6 +142,7 @@ fn lint_line<R: Threads + Sync, F: Files, O: Sink, E: Sink, G: Gate>(
     err: &mut E,
     gate: &G,
 ) -> Outcome
+    requires { line.now.generate ≡ None }
     ensures ran { OnRan result.answer (IsRun (Ok line.now) result.read (O.written out.old) (O.written out.new) (E.written err.old) (E.written err.new)) }
     ensures refused { OnRan result.answer (IsRefused (Ok line.now) result.read) }
     ensures stopped { OnSinkFault result.answer (IsStopped (Ok line.now) result.read (O.written out.old) (O.written out.new) (E.written err.old) (E.written err.new)) }
@@ -170,8 +172,9 @@ fn lint_line<R: Threads + Sync, F: Files, O: Sink, E: Sink, G: Gate>(
     }
 }
 
-/// Does all that the program does: reads the words, the options file and the files, lints, and prints the report. The
-/// whole report is made before the first write, and each line is one write.
+/// Does all that the program does: reads the words, the options file and the files, lints, and prints the report, or
+/// lints a made text and prints the line that counts what is shown. All of it is made before the first write, and each
+/// line is one write.
 pub fn lint_command<R: Threads + Sync, F: Files, O: Sink, E: Sink, G: Gate>(
     rt: &R,
     alloc: Global,
@@ -203,7 +206,8 @@ pub fn lint_command<R: Threads + Sync, F: Files, O: Sink, E: Sink, G: Gate>(
     // What was read is what the files hold, but for the questions that failed in this call.
     ensures read { ForSome (F.held files.old) (λ tree. OnWritten result.answer (IsReadFrom (line_of words.now) tree (F.failed files.old) (F.failed files.new) (F.faults files.old) (F.faults files.new) result.read)) }
 
-    // On every device the options file comes behind good words, and the files behind a good options file.
+    // On every device the options file comes behind good words, and the files behind a good options file. For a made text
+    // nothing is asked.
     ensures order { OnWritten result.answer (IsInOrder (line_of words.now) result.read) }
     ensures failed { HasReadCauses (F.faults files.old) (F.faults files.new) result.read }
 
@@ -211,7 +215,10 @@ pub fn lint_command<R: Threads + Sync, F: Files, O: Sink, E: Sink, G: Gate>(
     ensures none_failed { ¬ (Rose (F.faults files.old) (F.faults files.new)) → failures result.read ≡ 0 }
 {
     let fault = match read_words(alloc, words) {
-        Ok(line) => return lint_line(rt, alloc, &line, files, out, err, gate),
+        Ok(line) => match line.generate {
+            Some(classes) => return lint_made(rt, alloc, &line, classes, out, gate),
+            None => return lint_line(rt, alloc, &line, files, out, err, gate),
+        },
         Err(fault) => fault,
     };
     let answer = refuse(alloc, &fault, err);

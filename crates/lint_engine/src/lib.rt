@@ -6,6 +6,7 @@ mod command;
 mod entries;
 mod faults;
 mod list;
+mod made;
 mod messages;
 mod shown;
 mod source;

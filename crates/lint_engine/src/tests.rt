@@ -11,6 +11,7 @@ use std::thread::Threads;
 mod failing;
 mod flow;
 mod limits;
+mod made;
 mod names;
 mod pragmas;
 mod sources;

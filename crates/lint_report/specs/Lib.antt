@@ -1,3 +1,4 @@
 pub mod Report
 pub mod Score
+pub mod Summary
 pub mod Usage

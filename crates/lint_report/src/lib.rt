@@ -7,6 +7,7 @@ mod rating;
 mod report;
 mod scores;
 mod statuses;
+mod summary;
 mod usage;
 
 pub use findings::Findings;
@@ -15,6 +16,7 @@ pub use rating::scored_text;
 pub use report::{ReportLines, status, text};
 pub use scores::{Quotient, exact_score, score};
 pub use statuses::exit_status;
+pub use summary::summary_text;
 pub use usage::usage_text;
 
 #[cfg(test)]

@@ -1,16 +1,18 @@
--- What the words of a command line say: the edits and the files, or the first fault from the left.
-use Rattle.std.specs.Prelude.{ℕ, List, [], ◌∷◌, ◌==◌, Option, None, Some, Result, Ok, Err, length, if◌then◌else◌}
+-- What the words of a command line say: the edits and the files, or a made text, or the first fault from the left.
+use Rattle.std.specs.Prelude.{ℕ, List, [], ◌∷◌, ◌==◌, Option, None, Some, Result, Ok, Err, codes, length, if◌then◌else◌}
+use Rattle.std.specs.List.{before_first, after_first}
+use Rattle.std.specs.Str.{bytes_eq}
 use Rattle.option_words.specs.declared.option_name.OptionName.{OptionName}
 use Rattle.option_words.specs.declared.option_name.OptionName.TheVariants.{Rcfile}
 use Rattle.option_words.specs.OptionNames.{kind}
-use Rattle.option_words.specs.Values.{fits}
+use Rattle.option_words.specs.Values.{fits, is_within, number_of}
 use Rattle.options.specs.declared.edits.Edit.{Edit}
 use Rattle.options.specs.declared.line.Line.{Line}
 use Rattle.options.specs.declared.usage.UsageFault.{UsageFault}
 use Rattle.options.specs.declared.usage.UsageFault.TheVariants.{UnknownOption, NeedsValue, BadValue, NoFile}
 use Rattle.options.specs.declared.words.Said.{Said}
 use Rattle.options.specs.Edits.{edit_of, is_flag, last_value}
-use Rattle.options.specs.Words.{Form, Ends, File, Unknown, Alone, Attached, form_of}
+use Rattle.options.specs.Words.{Form, Ends, File, Unknown, Alone, Attached, form_of, is_equals}
 
 abbrev pub Reading : Type 0
 Reading = Result Said UsageFault
@@ -69,6 +71,32 @@ line_by (Ok said) =
     if length said.files == 0 then Err NoFile
     else Ok (record { edits = said.edits; files = said.files; rcfile = last_value Rcfile said.edits; generate = None })
 
+-- the line of edits and files that words are
+abbrev pub words_line : List (List ℕ) → Result Line UsageFault
+words_line words = line_by (said_by words)
+
+-- ---- a made text, which `--generate=N` asks for where it is the only word
+
+-- a number of classes, from 1 to 20000
+abbrev pub made_line : List ℕ → List ℕ → Result Line UsageFault
+made_line word value =
+    if is_within 1 20000 value then Ok (record { edits = []; files = []; rcfile = None; generate = Some (number_of value) }) else Err (BadValue word)
+
+-- the only word, where no `=` stands in it
+abbrev pub sole_name : List ℕ → Result Line UsageFault
+sole_name word = if bytes_eq word (codes "--generate") then Err (NeedsValue word) else words_line (word ∷ [])
+
+-- the only word, by what stands before its first `=` and behind it
+abbrev pub sole_value : List ℕ → List ℕ → List ℕ → Result Line UsageFault
+sole_value word name value = if bytes_eq name (codes "--generate") then made_line word value else words_line (word ∷ [])
+
+abbrev pub sole_line : List ℕ → Result Line UsageFault
+sole_line word =
+    if length (before_first is_equals word) == length word then sole_name word
+    else sole_value word (before_first is_equals word) (after_first is_equals word)
+
 -- the line that words are, or the first fault
 abbrev pub line_of : List (List ℕ) → Result Line UsageFault
-line_of words = line_by (said_by words)
+line_of [] = words_line []
+line_of (word ∷ []) = sole_line word
+line_of (word ∷ next ∷ words) = words_line (word ∷ next ∷ words)

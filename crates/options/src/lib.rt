@@ -4,6 +4,7 @@
 mod edits;
 mod file;
 mod form;
+mod generate;
 mod line;
 mod settings;
 mod switches;

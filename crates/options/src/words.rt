@@ -1,15 +1,16 @@
 // The words of the command line.
-ghost use Rattle.std.specs.Prelude.{◌≡◌, ◌++◌, ◌≤◌, [], ◌∷◌, true, false, length, Ok, Err, IfOk, IfErr, OnOk};
+ghost use Rattle.std.specs.Prelude.{◌≡◌, ◌++◌, ◌≤◌, [], ◌∷◌, None, true, false, length, Ok, Err, IfOk, IfErr, IfSome, OnOk};
 ghost use Rattle.std.specs.Option.{option_copied};
 ghost use Rattle.option_words.specs.OptionNames.{kind};
 ghost use Rattle.options.specs.Behind.{behind};
 ghost use Rattle.options.specs.Edits.{allows, edit_of};
-ghost use Rattle.options.specs.Lines.{Reading, line_of, said_by, with_edit, with_file, with_value};
+ghost use Rattle.options.specs.Lines.{Reading, line_of, said_by, with_edit, with_file, with_value, words_line};
 ghost use Rattle.options.specs.Usage.{is_memory};
 ghost use Rattle.options.specs.Words.{Alone, form_of};
 
 use crate::edits::last_value;
 use crate::form::{WordForm, is_flag, read_form};
+use crate::generate::sole_line;
 use crate::{Edits, Line, UsageFault};
 use lint_values::{Memory, Text, Texts};
 use option_words::{OptionName, fits};
@@ -22,7 +23,7 @@ pub(crate) struct Said {
     files: Texts,
 }
 
-fn copy(alloc: Global, text: &Text) -> Result<Text, Memory>
+pub(crate) fn copy(alloc: Global, text: &Text) -> Result<Text, Memory>
     ensures { IfOk result (λ made. made ≡ text.now) }
 {
     Text::from_str(alloc, text.as_str())
@@ -155,11 +156,11 @@ fn copy_value(alloc: Global, value: Option<&str>) -> Result<Option<Text>, Memory
     }
 }
 
-/// Reads the words: the edits and the files that they say, or the first fault from the left, with the word that has it.
-/// That no word is a file is a fault where no other stands.
-pub fn read_words(alloc: Global, words: &[Text]) -> Result<Line, UsageFault>
-    ensures line { IfOk result (λ line. line_of words.now ≡ Ok line) }
-    ensures refused { IfErr result (λ fault. is_memory fault ≡ false → line_of words.now ≡ Err fault) }
+// The line of edits and files that words are. That no word is a file is a fault where no other stands.
+pub(crate) fn words_line(alloc: Global, words: &[Text]) -> Result<Line, UsageFault>
+    ensures line { IfOk result (λ line. words_line words.now ≡ Ok line) }
+    ensures refused { IfErr result (λ fault. is_memory fault ≡ false → words_line words.now ≡ Err fault) }
+    ensures plain { IfOk result (λ line. line.generate ≡ None) }
 {
     let Said { edits, files } = read_all(alloc, words)?;
     if files.as_slice().is_empty() {
@@ -172,4 +173,17 @@ pub fn read_words(alloc: Global, words: &[Text]) -> Result<Line, UsageFault>
         rcfile,
         generate: None,
     })
+}
+
+/// Reads the words: the edits and the files that they say, or the number of a made text, or the first fault from the
+/// left, with the word that has it.
+pub fn read_words(alloc: Global, words: &[Text]) -> Result<Line, UsageFault>
+    ensures line { IfOk result (λ line. line_of words.now ≡ Ok line) }
+    ensures refused { IfErr result (λ fault. is_memory fault ≡ false → line_of words.now ≡ Err fault) }
+    ensures few { IfOk result (λ line. IfSome line.generate (λ classes. classes ≤ 20000)) }
+{
+    match words {
+        [word] => sole_line(alloc, word, words),
+        _ => words_line(alloc, words),
+    }
 }

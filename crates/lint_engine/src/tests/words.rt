@@ -56,6 +56,10 @@ const REFUSED: &str = r"-j|option '-j' needs a value
 --jobs=65 a.py|bad value '--jobs=65'
 --nope a.py|unknown option '--nope'
 -|unknown option '-'
+--generate|option '--generate' needs a value
+--generate=0|bad value '--generate=0'
+--generate=20001|bad value '--generate=20001'
+--generate=3 a.py|unknown option '--generate=3'
 --score=yes|no file given
 --rcfile=x.toml a.py|'x.toml' is not TOML
 --rcfile=none.toml a.py|options file 'none.toml' not found

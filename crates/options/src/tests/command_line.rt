@@ -1,5 +1,5 @@
 // Words and what they say. The words stand between bars. What is expected is the edits, each with its value, and behind
-// ` > ` the files, or the fault with its word.
+// ` > ` the files, or behind ` made ` the number of a made text, or the fault with its word.
 use crate::{Edit, UsageFault, read_words};
 use lint_values::Text;
 use std::alloc::Global;
@@ -57,6 +57,9 @@ fn said(alloc: Global, words: &str) -> Result<String, Fail> {
             let mut out = String::new(alloc);
             push_edits(&mut out, line.edits.as_slice())?;
             push_files(&mut out, line.files.as_slice())?;
+            if let Some(classes) = line.generate {
+                out.push_str(format!(in alloc; " made {classes}")?.as_str())?;
+            }
             Ok(out)
         }
         Err(fault) => fault_text(alloc, &fault),
@@ -105,8 +108,6 @@ a.py|--|--|--jobs=99^ > a.py|--|--jobs=99
 --jobsx=1^UnknownOption --jobsx=1
 --Jobs=1^UnknownOption --Jobs=1
 --fail_under=9^UnknownOption --fail_under=9
---generate=3^UnknownOption --generate=3
---generate^UnknownOption --generate
 --help^UnknownOption --help
 --version^UnknownOption --version
 a.py|--jobs=2^jobs=2 > a.py";
@@ -311,6 +312,45 @@ a.py|--jobs|65|-x^BadValue 65
 --jobs=2|--jobs=3|-j4|a.py^jobs=2;jobs=3;jobs=4 > a.py
 --disable=all|--enable=E0240,E0241|d.py^disable=all;enable=E0240,E0241 > d.py
 --enable=W0611|--disable=W0611|u.py^enable=W0611;disable=W0611 > u.py";
+
+const MADE_TEXTS: &str = "--generate=1^ made 1
+--generate=3^ made 3
+--generate=020^ made 20
+--generate=20000^ made 20000
+--generate=000020000^ made 20000
+--generate=0^BadValue --generate=0
+--generate=20001^BadValue --generate=20001
+--generate=0000000003^BadValue --generate=0000000003
+--generate=^BadValue --generate=
+--generate=-1^BadValue --generate=-1
+--generate=+3^BadValue --generate=+3
+--generate= 3^BadValue --generate= 3
+--generate=3.0^BadValue --generate=3.0
+--generate=x^BadValue --generate=x
+--generate=3=4^BadValue --generate=3=4
+--generate^NeedsValue --generate
+--generat=3^UnknownOption --generat=3
+--generated=3^UnknownOption --generated=3
+--Generate=3^UnknownOption --Generate=3
+-generate=3^UnknownOption -generate=3
+--generate|3^UnknownOption --generate
+--generate=3|a.py^UnknownOption --generate=3
+a.py|--generate=3^UnknownOption --generate=3
+--generate=3|--generate=3^UnknownOption --generate=3
+--generate=3|-E^UnknownOption --generate=3
+-E|--generate=3^UnknownOption --generate=3
+--score=maybe|--generate=3^BadValue --score=maybe
+--jobs|--generate=3^BadValue --generate=3
+--rcfile|--generate=3^NoFile
+--generate=3|--^UnknownOption --generate=3
+--|--generate=3^ > --generate=3
+generate=3^ > generate=3";
+
+#[test]
+fn made_text_is_asked_for_by_the_only_word(rt: HostRuntime) -> Result<(), Fail> {
+    assert_eq!(rt; first_other(rt.alloc(), MADE_TEXTS)?, None);
+    Ok(())
+}
 
 #[test]
 fn words_are_options_or_files(rt: HostRuntime) -> Result<(), Fail> {

@@ -1,4 +1,4 @@
-use Rattle.std.proofs.Common.{ap, ◌∙◌, ◌≡◌}
+use Rattle.std.proofs.Common.{ap, ◌∙◌}
 use Rattle.lint_engine.specs.Shown.{alone, shown_of, syntax_error}
 use Rattle.lint_engine.proofs.ShownLaws.{faulty_source}
 use Rattle.lint_engine.proofs.source.show_source.Goals as goal

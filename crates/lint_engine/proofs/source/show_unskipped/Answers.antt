@@ -1,4 +1,4 @@
-use Rattle.std.proofs.Common.{ap, ◌∙◌, ◌≡◌}
+use Rattle.std.proofs.Common.{ap, ◌∙◌}
 use Rattle.parse_stmt.specs.Spelling.{IsFault}
 use Rattle.lint_engine.specs.Shown.{alone, head_of, shown_of, syntax_error}
 use Rattle.lint_engine.proofs.ShownLaws.{formless_source, read_source}
