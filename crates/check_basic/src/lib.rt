@@ -15,6 +15,3 @@ mod tree;
 
 pub use source::check_lines;
 pub use tree::{check_tree, statements};
-
-#[cfg(test)]
-mod tests;

@@ -16,6 +16,3 @@ mod undefined;
 mod wildcards;
 
 pub use file::check;
-
-#[cfg(test)]
-mod tests;

@@ -17,6 +17,3 @@ pub use entry::{Entry, Listed};
 pub(crate) use found::{Finding, Found};
 pub use gathering::gather;
 pub use reading::Reading;
-
-#[cfg(test)]
-mod tests;

@@ -13,6 +13,3 @@ mod piece;
 pub use cut::pieces;
 pub use fault::FieldFault;
 pub use piece::{Piece, Pieces};
-
-#[cfg(test)]
-mod tests;

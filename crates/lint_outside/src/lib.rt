@@ -24,6 +24,3 @@ pub use outside::{Content, FilesFault, Kind, Listing, Question, SinkFault};
 pub use real_files::RealFiles;
 pub use real_sink::RealSink;
 pub use sink::Sink;
-
-#[cfg(test)]
-mod tests;

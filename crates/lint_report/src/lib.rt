@@ -18,6 +18,3 @@ pub use scores::{Quotient, exact_score, score};
 pub use statuses::exit_status;
 pub use summary::summary_text;
 pub use usage::usage_text;
-
-#[cfg(test)]
-mod tests;

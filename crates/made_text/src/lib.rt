@@ -6,6 +6,3 @@ mod text;
 
 pub use reading::made_reading;
 pub use text::made_text;
-
-#[cfg(test)]
-mod tests;

@@ -10,6 +10,3 @@ mod row;
 
 pub use linearization::linearize;
 pub use row::{Order, Row, bases_are_below};
-
-#[cfg(test)]
-mod tests;

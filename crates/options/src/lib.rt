@@ -17,6 +17,3 @@ pub use line::Line;
 pub use settings::Options;
 pub use usage::UsageFault;
 pub use words::read_words;
-
-#[cfg(test)]
-mod tests;

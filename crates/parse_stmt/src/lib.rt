@@ -13,6 +13,3 @@ mod source;
 pub use fault::{LineCause, SyntaxCause, SyntaxFault};
 pub use laws::{one_fault, one_tree, tree_or_fault};
 pub use source::parse;
-
-#[cfg(test)]
-mod tests;

@@ -19,6 +19,3 @@ mod timeline;
 pub use pragmas::Pragmas;
 pub use row::BadName;
 pub use skip::skip_file;
-
-#[cfg(test)]
-mod tests;

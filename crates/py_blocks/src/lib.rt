@@ -20,6 +20,3 @@ pub use line::Line;
 pub use parse::{line_of, parse_rows};
 pub use row::BlockRow;
 pub use rules::first_fault;
-
-#[cfg(test)]
-mod tests;

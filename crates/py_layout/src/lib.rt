@@ -16,6 +16,3 @@ pub use fault::{IndentationCause, ItemCause, LayoutCause, LayoutFault};
 pub use first::layout;
 pub use item::{Bracket, Item, Widths};
 pub use logical::Logical;
-
-#[cfg(test)]
-mod tests;

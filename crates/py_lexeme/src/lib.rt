@@ -14,6 +14,3 @@ mod tables;
 
 pub use cutting::cut;
 pub use piece::{Cause, Cut, Kind, Piece, Stop};
-
-#[cfg(test)]
-mod tests;

@@ -8,9 +8,6 @@ use lint_values::{Memory, Text};
 use std::alloc::Global;
 use unicode_normalization::to_nfkc;
 
-#[cfg(test)]
-mod tests;
-
 /// The NFKC form of a name, or nothing where the name is ASCII and so is its own form.
 pub fn normal_form(alloc: Global, name: &str) -> Result<Option<Text>, Memory>
     ensures { IfOk result (λ answer. MatchOption answer (IsItsOwn name.now) (IsNormalForm name.now)) }

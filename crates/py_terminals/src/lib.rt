@@ -13,6 +13,3 @@ mod token;
 pub use fault::LineFault;
 pub use line::{depth, terminals};
 pub use place::end_line_of;
-
-#[cfg(test)]
-mod tests;

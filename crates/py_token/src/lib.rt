@@ -16,6 +16,3 @@ pub use py_source::Span;
 pub use token::{Comment, Token, TokenKind};
 pub use tokens::Tokens;
 pub use whole::{tokenize, tokenize_field};
-
-#[cfg(test)]
-mod tests;

@@ -12,6 +12,3 @@ mod terminals;
 pub use fault::LineFault;
 pub use form::LineForm;
 pub use line::read_line;
-
-#[cfg(test)]
-mod tests;

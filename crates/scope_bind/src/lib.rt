@@ -23,8 +23,3 @@ mod truth;
 
 pub use scope_rules::{ScopeId, Where};
 pub use scopes::Scopes;
-
-#[cfg(test)]
-mod programs;
-#[cfg(test)]
-mod tests;

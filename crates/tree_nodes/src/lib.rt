@@ -12,6 +12,3 @@ pub use builder::TreeBuilder;
 pub use kind::Kind;
 pub use tree::Tree;
 pub use walk::Walk;
-
-#[cfg(test)]
-mod tests;

@@ -22,6 +22,3 @@ mod unused;
 mod variables;
 
 pub use unused::check_unused;
-
-#[cfg(test)]
-mod tests;
