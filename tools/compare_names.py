@@ -17,9 +17,8 @@ import re
 import shutil
 import subprocess
 import sys
-import sysconfig
 
-from library_files import files_below
+from library_files import files_below, given_folders
 
 ROOT = os.path.dirname(os.path.dirname(os.path.realpath(__file__)))
 PROGRAM = os.path.join(ROOT, "crates/pylint/out/pylint")
@@ -334,9 +333,8 @@ def compare(tool, ours, theirs, is_listing):
 
 def main():
     is_listing = "--list" in sys.argv[1:]
-    folders = [word for word in sys.argv[1:] if word != "--list"] or [sysconfig.get_paths()["stdlib"]]
-    if not os.path.exists(PROGRAM) or not all(map(os.path.isdir, folders)):
-        print("skipped: the program or the library is missing")
+    folders = given_folders(PROGRAM, [word for word in sys.argv[1:] if word != "--list"])
+    if not folders:
         return 0
     paths = list(files_below(folders, LEFT_OUT))
     ours = list(of_pylint(report([PROGRAM, "--disable=all", f"--enable={CODES}", "--score=n"], paths)))

@@ -14,11 +14,10 @@ import os
 import subprocess
 import symtable
 import sys
-import sysconfig
 import warnings
 
 import scope_trees
-from library_files import files_below
+from library_files import files_below, given_folders
 
 ROOT = os.path.dirname(os.path.dirname(os.path.realpath(__file__)))
 PROGRAM = os.path.join(ROOT, "crates/list_scopes/out/list_scopes")
@@ -236,11 +235,9 @@ def compare_files(paths):
 
 
 def main():
-    folders = sys.argv[1:] or [sysconfig.get_paths()["stdlib"]]
-    if not os.path.exists(PROGRAM) or not all(map(os.path.isdir, folders)):
-        print("skipped: the program or the library is missing")
+    paths = list(files_below(given_folders(PROGRAM, sys.argv[1:])))
+    if not paths:
         return 0
-    paths = list(files_below(folders))
     parts = [paths[i : i + 40] for i in range(0, len(paths), 40)]
     counts, shown = collections.Counter(), 0
     with concurrent.futures.ProcessPoolExecutor(2) as workers:

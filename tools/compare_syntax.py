@@ -15,11 +15,10 @@ import os
 import re
 import subprocess
 import sys
-import sysconfig
 import tokenize
 import warnings
 
-from library_files import files_below
+from library_files import files_below, given_folders
 
 ROOT = os.path.dirname(os.path.dirname(os.path.realpath(__file__)))
 PROGRAM = os.path.join(ROOT, "crates/pylint/out/pylint")
@@ -95,11 +94,9 @@ def verdict(path):
 
 
 def main():
-    folders = sys.argv[1:] or [sysconfig.get_paths()["stdlib"]]
-    if not os.path.exists(PROGRAM) or not all(map(os.path.isdir, folders)):
-        print("skipped: the program or the library is missing")
+    paths = list(files_below(given_folders(PROGRAM, sys.argv[1:])))
+    if not paths:
         return 0
-    paths = list(files_below(folders))
     counts = collections.Counter()
     with concurrent.futures.ThreadPoolExecutor(os.cpu_count()) as workers:
         for path, (name, ours, theirs) in zip(paths, workers.map(verdict, paths)):

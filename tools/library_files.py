@@ -1,5 +1,15 @@
 """The files that the comparisons of this folder go over."""
 import os
+import sysconfig
+
+
+def given_folders(program, words):
+    """The folders that words name, or Python's library; none, which is told, where they or the program are missing."""
+    folders = words or [sysconfig.get_paths()["stdlib"]]
+    if os.path.exists(program) and all(map(os.path.isdir, folders)):
+        return folders
+    print("skipped: the program or the library is missing")
+    return []
 
 
 def files_below(folders, left_out=frozenset()):

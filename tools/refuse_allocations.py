@@ -51,6 +51,24 @@ int posix_memalign(void **p, size_t a, size_t n) { if (refused()) return ENOMEM;
 """
 
 
+def compiler_for(program):
+    """The C compiler, or nothing, which is told, where it or the program is missing."""
+    compiler = shutil.which("cc") or shutil.which("gcc")
+    if os.path.exists(program) and compiler is not None:
+        return compiler
+    print("skipped: the program or a C compiler is missing")
+    return None
+
+
+def compiled_shim(compiler, folder):
+    """The path of the shim, compiled in a folder."""
+    source, shim = os.path.join(folder, "shim.c"), os.path.join(folder, "shim.so")
+    with open(source, "w", encoding="ascii") as file:
+        file.write(SHIM)
+    subprocess.run([compiler, "-shared", "-fPIC", "-O1", "-o", shim, source], check=True)
+    return shim
+
+
 def run(folder, name, shim, at, made):
     env = dict(os.environ, LD_PRELOAD=shim, REFUSE_AT=str(at), MADE_FILE=made)
     done = subprocess.run([PROGRAM, name], cwd=folder, env=env, capture_output=True, check=False)
@@ -74,15 +92,11 @@ def try_source(folder, name, shim):
 
 
 def main():
-    compiler = shutil.which("cc") or shutil.which("gcc")
-    if not os.path.exists(PROGRAM) or compiler is None:
-        print("skipped: the program or a C compiler is missing")
+    compiler = compiler_for(PROGRAM)
+    if compiler is None:
         return 0
     with tempfile.TemporaryDirectory() as folder:
-        source, shim = os.path.join(folder, "shim.c"), os.path.join(folder, "shim.so")
-        with open(source, "w", encoding="ascii") as file:
-            file.write(SHIM)
-        subprocess.run([compiler, "-shared", "-fPIC", "-O1", "-o", shim, source], check=True)
+        shim = compiled_shim(compiler, folder)
         names = []
         for path in sys.argv[1:]:
             names.append(os.path.basename(path))

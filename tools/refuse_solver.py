@@ -10,12 +10,11 @@ usage: tools/refuse_solver.py [SHAPE SIZE]     (a ring of 20 variables and 40 in
 It is skipped with status 0 where the program or a C compiler is missing.
 """
 import os
-import shutil
 import subprocess
 import sys
 import tempfile
 
-from refuse_allocations import ROOT, SHIM
+from refuse_allocations import ROOT, compiled_shim, compiler_for
 
 PROGRAM = os.path.join(ROOT, "crates/solve_systems/out/solve_systems")
 
@@ -45,16 +44,12 @@ def try_shape(words, folder, shim):
 
 
 def main():
-    compiler = shutil.which("cc") or shutil.which("gcc")
-    if not os.path.exists(PROGRAM) or compiler is None:
-        print("skipped: the program or a C compiler is missing")
+    compiler = compiler_for(PROGRAM)
+    if compiler is None:
         return 0
     failed = False
     with tempfile.TemporaryDirectory() as folder:
-        source, shim = os.path.join(folder, "shim.c"), os.path.join(folder, "shim.so")
-        with open(source, "w", encoding="ascii") as file:
-            file.write(SHIM)
-        subprocess.run([compiler, "-shared", "-fPIC", "-O1", "-o", shim, source], check=True)
+        shim = compiled_shim(compiler, folder)
         for words in [sys.argv[1:3]] if len(sys.argv) > 2 else [["ring", "20"], ["layers", "40"]]:
             count, went_on, out_of_memory, differs = try_shape(words, folder, shim)
             print(f"{' '.join(words)}: {count} allocations refused in turn, {went_on} went on after a refused demand, "
