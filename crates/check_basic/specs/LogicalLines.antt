@@ -12,15 +12,18 @@ use Rattle.py_token.specs.declared.token.Token.{Token}
 use Rattle.py_token.specs.Spans.{span_of}
 use Rattle.py_token.specs.Tokenized.{Tokenized}
 use Rattle.tree_nodes.specs.Trees.{Tree, node_at, kids_at}
+use Rattle.scope_rules.specs.Nodes.{kind_of, nodes_of}
+use Rattle.rule_nodes.specs.Kinds.{is_statement, is_expression_statement, is_ellipsis}
+use Rattle.rule_nodes.specs.Nodes.{message_at}
 use Rattle.check_basic.specs.LineRules.{message}
-use Rattle.check_basic.specs.Kinds.{is_statement, has_header, is_expression_statement, is_ellipsis}
-use Rattle.check_basic.specs.Nodes.{nodes, kind_at, is_sole, message_at}
+use Rattle.check_basic.specs.Kinds.{has_header}
+use Rattle.check_basic.specs.Nodes.{is_sole}
 
 -- ---- multiple-statements
 
 -- a statement, or the header of a statement or clause: what a logical line holds
 abbrev pub is_on_line : Tree → ℕ → Bool
-is_on_line t n = is_statement (kind_at t n) || has_header (kind_at t n)
+is_on_line t n = is_statement (kind_of t n) || has_header (kind_of t n)
 
 -- the statements and headers, in the order of the source
 abbrev pub on_lines : Tree → List ℕ → List ℕ
@@ -50,11 +53,11 @@ cut t (start ∷ starts) ns = take_while (begins_before t start) ns ∷ cut t st
 
 -- the statement `...`
 abbrev pub is_ellipsis_statement : Tree → ℕ → Bool
-is_ellipsis_statement t n = is_expression_statement (kind_at t n) && is_sole (λ k. is_ellipsis (kind_at t k)) (kids_at t n)
+is_ellipsis_statement t n = is_expression_statement (kind_of t n) && is_sole (λ k. is_ellipsis (kind_of t k)) (kids_at t n)
 
 -- a header, and `...` alone behind it
 abbrev pub is_stub : Tree → ℕ → ℕ → Bool
-is_stub t first second = has_header (kind_at t first) && is_ellipsis_statement t second
+is_stub t first second = has_header (kind_of t first) && is_ellipsis_statement t second
 
 abbrev pub second_message : FileId → Tree → ℕ → Message
 second_message file t second = message_at file t second MultipleStatements []
@@ -75,7 +78,7 @@ seconds file t lines = flat_map (second_on_line file t) lines
 
 -- the second statement of each logical line
 abbrev pub multiple_statements : FileId → Tokenized → Tree → List Message
-multiple_statements file read t = seconds file t (cut t (starts read read.lines) (on_lines t (nodes t)))
+multiple_statements file read t = seconds file t (cut t (starts read read.lines) (on_lines t (nodes_of t)))
 
 -- ---- unnecessary-semicolon
 

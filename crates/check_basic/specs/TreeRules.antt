@@ -11,17 +11,18 @@ use Rattle.options.specs.declared.settings.Options.{Options}
 use Rattle.flow_rules.specs.FlowRules.{flow_messages}
 use Rattle.tree_nodes.specs.Trees.{Tree, kids_at}
 use Rattle.py_token.specs.Tokenized.{Tokenized}
-use Rattle.check_basic.specs.Kinds.{is_counted, is_module_root, is_class, is_function, is_import, is_pass}
-use Rattle.check_basic.specs.Nodes.{nodes, kind_at, name_at, message_at, has_docstring, has_statement, block_len, is_public_name, owner_of, is_open_to, is_setter}
+use Rattle.scope_rules.specs.Kinds.{is_def, is_class}
+use Rattle.scope_rules.specs.Nodes.{kind_of, nodes_of}
+use Rattle.rule_nodes.specs.Kinds.{is_counted, is_module}
+use Rattle.rule_nodes.specs.Nodes.{written, is_public, message_at, due}
+use Rattle.rule_nodes.specs.Outwards.{owner_of}
+use Rattle.check_basic.specs.Kinds.{is_import, is_pass}
+use Rattle.check_basic.specs.Nodes.{has_docstring, has_statement, block_len, is_open_to, is_setter}
 use Rattle.check_basic.specs.LogicalLines.{multiple_statements, unnecessary_semicolons}
-
--- a message, where it is due
-abbrev pub due : Bool → Message → List Message
-due is_due message = if is_due then message ∷ [] else []
 
 -- missing-module-docstring: a module of statements without a docstring, at its first line
 abbrev pub lacks_module_docstring : Tree → ℕ → Bool
-lacks_module_docstring t n = is_module_root (kind_at t n) && (has_statement t (kids_at t n) && not (has_docstring t (kids_at t n)))
+lacks_module_docstring t n = is_module (kind_of t n) && (has_statement t (kids_at t n) && not (has_docstring t (kids_at t n)))
 
 abbrev pub at_first_line : FileId → ℕ → Code → Message
 at_first_line file n code = record { file = file; node = Some (record { 0 = n }); pos = record { line = 1; col = 0 }; code = code; args = [] }
@@ -31,11 +32,11 @@ missing_module_docstring file t n = due (lacks_module_docstring t n) (at_first_l
 
 -- a public name, and no docstring
 abbrev pub is_undocumented : Tree → ℕ → Bool
-is_undocumented t n = is_public_name (name_at t n) && not (has_docstring t (kids_at t n))
+is_undocumented t n = is_public (written t n) && not (has_docstring t (kids_at t n))
 
 -- missing-class-docstring: a public class without one
 abbrev pub lacks_class_docstring : Tree → ℕ → Bool
-lacks_class_docstring t n = is_class (kind_at t n) && is_undocumented t n
+lacks_class_docstring t n = is_class (kind_of t n) && is_undocumented t n
 
 abbrev pub missing_class_docstring : FileId → Tree → ℕ → List Message
 missing_class_docstring file t n = due (lacks_class_docstring t n) (message_at file t n MissingClassDocstring [])
@@ -43,18 +44,18 @@ missing_class_docstring file t n = due (lacks_class_docstring t n) (message_at f
 -- missing-function-docstring: a public function without one, at module level or in a class without bases, and no setter
 abbrev pub lacks_function_docstring : Tree → ℕ → Bool
 lacks_function_docstring t n =
-    is_function (kind_at t n) && (is_undocumented t n && (is_open_to t (owner_of t n) && not (is_setter t (kids_at t n))))
+    is_def (kind_of t n) && (is_undocumented t n && (is_open_to t (owner_of t n) && not (is_setter t (kids_at t n))))
 
 abbrev pub missing_function_docstring : FileId → Tree → ℕ → List Message
 missing_function_docstring file t n = due (lacks_function_docstring t n) (message_at file t n MissingFunctionDocstring [])
 
 -- names joined by commas
 abbrev pub names_behind : Tree → List ℕ → List ℕ
-names_behind t kids = flat_map (λ k. codes ", " ++ name_at t k) kids
+names_behind t kids = flat_map (λ k. codes ", " ++ written t k) kids
 
 abbrev pub imported_names : Tree → List ℕ → List ℕ
 imported_names t [] = []
-imported_names t (k ∷ kids) = name_at t k ++ names_behind t kids
+imported_names t (k ∷ kids) = written t k ++ names_behind t kids
 
 -- several names
 abbrev pub are_several : List ℕ → Bool
@@ -62,14 +63,14 @@ are_several kids = nat_lt 1 (length kids)
 
 -- multiple-imports: an `import` of several modules
 abbrev pub imports_several : Tree → ℕ → Bool
-imports_several t n = is_import (kind_at t n) && are_several (kids_at t n)
+imports_several t n = is_import (kind_of t n) && are_several (kids_at t n)
 
 abbrev pub multiple_imports : FileId → Tree → ℕ → List Message
 multiple_imports file t n = due (imports_several t n) (message_at file t n MultipleImports (imported_names t (kids_at t n) ∷ []))
 
 -- unnecessary-pass: each `pass` of a block that has another statement or a docstring
 abbrev pub pass_message : FileId → Tree → ℕ → List Message
-pass_message file t n = due (is_pass (kind_at t n)) (message_at file t n UnnecessaryPass [])
+pass_message file t n = due (is_pass (kind_of t n)) (message_at file t n UnnecessaryPass [])
 
 abbrev pub passes : FileId → Tree → List ℕ → List Message
 passes file t kids = flat_map (pass_message file t) kids
@@ -89,7 +90,7 @@ nodes_messages file t ns = flat_map (node_messages file t) ns
 -- the messages of a tree and its tokens, as they are found
 abbrev pub tree_found : Options → FileId → Tokenized → Tree → List Message
 tree_found options file read t =
-    nodes_messages file t (nodes t) ++ (multiple_statements file read t ++ (unnecessary_semicolons file read ++ flow_messages options file t))
+    nodes_messages file t (nodes_of t) ++ (multiple_statements file read t ++ (unnecessary_semicolons file read ++ flow_messages options file t))
 
 -- the messages of a tree and its tokens, in their order
 abbrev pub tree_messages : Options → FileId → Tokenized → Tree → List Message
@@ -97,8 +98,8 @@ tree_messages options file read t = in_order (tree_found options file read t)
 
 -- how many of these nodes count as statements: simple and compound ones, and the clauses that count as one
 abbrev pub count_among : Tree → List ℕ → ℕ
-count_among t ns = count_by (λ n. is_counted (kind_at t n)) ns
+count_among t ns = count_by (λ n. is_counted (kind_of t n)) ns
 
 -- how many statements a tree has
 abbrev pub statement_count : Tree → ℕ
-statement_count t = count_among t (nodes t)
+statement_count t = count_among t (nodes_of t)

@@ -3,11 +3,11 @@ ghost use Rattle.std.specs.Prelude.{◌≡◌, ◌<◌, ◌++◌, OnOk};
 ghost use Rattle.tree_nodes.specs.Trees.{count_of};
 ghost use Rattle.check_basic.specs.TreeRules.{at_first_line, is_undocumented, lacks_module_docstring, lacks_class_docstring, lacks_function_docstring, missing_module_docstring, missing_class_docstring, missing_function_docstring};
 
-use crate::kinds::{is_class, is_function, is_module_root};
-use crate::nodes::{has_docstring, has_statement, is_open, is_public_name, message_at, name_at};
+use crate::nodes::{has_docstring, has_statement, is_open};
 use crate::setters::is_setter;
 use lint_messages::{Code, Message, Messages};
 use lint_values::{FileId, Memory, NodeId, Pos, Texts};
+use rule_nodes::{is_class, is_def, is_module, is_public, message_at, written};
 use std::alloc::Global;
 use tree_nodes::Tree;
 
@@ -15,7 +15,7 @@ fn lacks_module_docstring(tree: &Tree, n: NodeId) -> bool
     requires { n.0 < count_of tree.now }
     ensures { result ≡ lacks_module_docstring tree.now n.0 }
 {
-    is_module_root(tree.kind(n)) && has_statement(tree, n) && !has_docstring(tree, n)
+    is_module(tree.kind(n)) && has_statement(tree, n) && !has_docstring(tree, n)
 }
 
 fn at_first_line(alloc: Global, file: FileId, n: NodeId, code: Code) -> Message
@@ -52,7 +52,7 @@ fn is_undocumented(tree: &Tree, n: NodeId) -> bool
     requires { n.0 < count_of tree.now }
     ensures { result ≡ is_undocumented tree.now n.0 }
 {
-    is_public_name(name_at(tree, n)) && !has_docstring(tree, n)
+    is_public(written(tree, n)) && !has_docstring(tree, n)
 }
 
 fn lacks_class_docstring(tree: &Tree, n: NodeId) -> bool
@@ -83,7 +83,7 @@ fn lacks_function_docstring(tree: &Tree, n: NodeId) -> bool
     requires { n.0 < count_of tree.now }
     ensures { result ≡ lacks_function_docstring tree.now n.0 }
 {
-    is_function(tree.kind(n)) && is_undocumented(tree, n) && is_open(tree, n) && !is_setter(tree, n)
+    is_def(tree.kind(n)) && is_undocumented(tree, n) && is_open(tree, n) && !is_setter(tree, n)
 }
 
 /// Adds the message of a public function without a docstring, at module level or in a class without bases, that is no

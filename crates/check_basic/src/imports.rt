@@ -3,23 +3,23 @@ ghost use Rattle.std.specs.Prelude.{◌≡◌, ◌<◌, ◌++◌, ◌∷◌, [],
 ghost use Rattle.tree_nodes.specs.Trees.{count_of, kids_at};
 ghost use Rattle.tree_nodes.specs.Kept.{number_of};
 ghost use Rattle.lint_messages.specs.declared.code.Code.TheVariants.{MultipleImports};
-ghost use Rattle.check_basic.specs.Nodes.{message_at, name_at};
+ghost use Rattle.rule_nodes.specs.Nodes.{written, message_at};
 ghost use Rattle.check_basic.specs.TreeRules.{names_behind, imported_names, are_several, imports_several, multiple_imports};
 
 use crate::kinds::is_import;
-use crate::nodes::name_at;
 use lint_messages::{Code, Message, Messages};
-use lint_values::{FileId, Memory, NodeId, Text, Texts};
+use lint_values::{FileId, Memory, NodeId, Text};
+use rule_nodes::{message_on, written};
 use std::alloc::Global;
 use tree_nodes::Tree;
 
 // Adds a name behind a comma.
 fn push_name_behind(tree: &Tree, n: NodeId, text: &mut String) -> Result<(), Memory>
     requires { n.0 < count_of tree.now }
-    ensures { OnOk result (string_bytes text.new ≡ string_bytes text.old ++ (codes ", " ++ name_at tree.now n.0)) }
+    ensures { OnOk result (string_bytes text.new ≡ string_bytes text.old ++ (codes ", " ++ written tree.now n.0)) }
 {
     text.push_str(", ")?;
-    text.push_str(name_at(tree, n))?;
+    text.push_str(written(tree, n))?;
     Ok(())
 }
 
@@ -44,7 +44,7 @@ fn imported_names(alloc: Global, tree: &Tree, kids: &[NodeId]) -> Result<Text, M
     match kids {
         [] => Ok(Text::from_str(alloc, "")?),
         [first, rest @ ..] => {
-            let mut text = String::from_str(alloc, name_at(tree, *first))?;
+            let mut text = String::from_str(alloc, written(tree, *first))?;
             push_names_behind(tree, rest, &mut text)?;
             Ok(Text::from_string(text))
         }
@@ -56,15 +56,8 @@ fn imports_message(alloc: Global, file: FileId, tree: &Tree, n: NodeId) -> Resul
     requires { n.0 < count_of tree.now }
     ensures { IfOk result (λ message. message ≡ message_at file tree.now n.0 MultipleImports (imported_names tree.now (kids_at tree.now n.0) ∷ [])) }
 {
-    let mut args = Texts::new(alloc);
-    args.push(imported_names(alloc, tree, tree.kids(n))?)?;
-    Ok(Message {
-        file,
-        node: Some(n),
-        pos: tree.pos(n),
-        code: Code::MultipleImports,
-        args,
-    })
+    let names = imported_names(alloc, tree, tree.kids(n))?;
+    message_on(alloc, file, tree, n, Code::MultipleImports, names)
 }
 
 fn has_several_kids(tree: &Tree, n: NodeId) -> bool

@@ -3,16 +3,17 @@ ghost use Rattle.std.specs.Prelude.{◌≡◌, ◌<◌, ◌≤◌, ◌++◌, ◌
 ghost use Rattle.std.specs.List.{prefix_len, take_while};
 ghost use Rattle.tree_nodes.specs.Trees.{count_of};
 ghost use Rattle.tree_nodes.specs.Kept.{number_of};
-ghost use Rattle.check_basic.specs.Kinds.{is_ellipsis};
-ghost use Rattle.check_basic.specs.Nodes.{nodes, kind_at, is_sole};
+ghost use Rattle.scope_rules.specs.Nodes.{kind_of, nodes_of};
+ghost use Rattle.rule_nodes.specs.Kinds.{is_ellipsis};
+ghost use Rattle.check_basic.specs.Nodes.{is_sole};
 ghost use Rattle.check_basic.specs.LogicalLines.{is_on_line, on_lines, is_before, begins_before, begin_of, start_of, is_ellipsis_statement, is_stub, second_on_line, multiple_statements, is_semicolon, semicolon_message, last_of, unnecessary_semicolons};
 
-use crate::kinds::{has_header, is_ellipsis, is_expression_statement, is_statement};
-use crate::nodes::message_at;
+use crate::kinds::has_header;
 use crate::rules::plain_message;
 use lint_messages::{Code, Messages};
 use lint_values::{FileId, Memory, NodeId, Pos};
 use py_token::{Logical, Token, Tokens};
+use rule_nodes::{is_ellipsis, is_expression_statement, is_statement, message_at};
 use std::alloc::Global;
 use tree_nodes::Tree;
 
@@ -39,7 +40,7 @@ fn push_on_line(tree: &Tree, n: NodeId, all: &mut Vec<NodeId>) -> Result<(), Mem
 // The statements and headers, in the order of the source.
 #[tactic(auto, using(crate::proofs::NodeSteps::lines_more))]
 fn on_lines(alloc: Global, tree: &Tree) -> Result<Vec<NodeId>, Memory>
-    ensures value { IfOk result (λ all. map number_of all.items ≡ on_lines tree.now (nodes tree.now)) }
+    ensures value { IfOk result (λ all. map number_of all.items ≡ on_lines tree.now (nodes_of tree.now)) }
     ensures made { IfOk result (λ all. All (λ k. k.0 < count_of tree.now) all.items) }
 {
     let mut all = Vec::new(alloc);
@@ -107,7 +108,7 @@ fn start_of(tokens: &Tokens, line: Logical) -> Pos
 
 fn is_sole_ellipsis(tree: &Tree, kids: &[NodeId]) -> bool
     requires { All (λ k. k.0 < count_of tree.now) kids.now }
-    ensures { result ≡ is_sole (λ k. is_ellipsis (kind_at tree.now k)) (map number_of kids.now) }
+    ensures { result ≡ is_sole (λ k. is_ellipsis (kind_of tree.now k)) (map number_of kids.now) }
 {
     match kids {
         [kid] => is_ellipsis(tree.kind(*kid)),

@@ -1,50 +1,15 @@
 // What the rules ask of the nodes of a tree.
-ghost use Rattle.std.specs.Prelude.{◌≡◌, ◌<◌, [], ◌≤◌, All, IfSome, map, option_map, if◌then◌else◌};
+ghost use Rattle.std.specs.Prelude.{◌≡◌, ◌<◌, ◌≤◌, All, IfSome, map, option_map, if◌then◌else◌};
 ghost use Rattle.tree_nodes.specs.Trees.{count_of, kids_at};
 ghost use Rattle.tree_nodes.specs.Kept.{number_of};
-ghost use Rattle.check_basic.specs.Kinds.{is_in_block};
-ghost use Rattle.check_basic.specs.Nodes.{kind_at, name_at, message_at, has_docstring, has_statement, block_len, is_public_name, owner_of, has_base, is_plain_class, is_open_to};
+ghost use Rattle.scope_rules.specs.Kinds.{is_in_body};
+ghost use Rattle.scope_rules.specs.Nodes.{kind_of};
+ghost use Rattle.rule_nodes.specs.Outwards.{owner_of};
+ghost use Rattle.check_basic.specs.Nodes.{has_docstring, has_statement, block_len, is_plain_class, is_open_to};
 
-use crate::kinds::{is_base, is_class, is_docstring, is_in_block, is_owner, is_statement};
-use lint_messages::{Code, Message};
-use lint_values::{FileId, NodeId, Texts};
-use std::alloc::Global;
+use lint_values::NodeId;
+use rule_nodes::{has_base, is_class, is_docstring, is_in_body, is_owner, is_statement};
 use tree_nodes::Tree;
-
-/// A message of a node, with no argument.
-pub(crate) fn message_at(alloc: Global, file: FileId, tree: &Tree, n: NodeId, code: Code) -> Message
-    requires { n.0 < count_of tree.now }
-    ensures { result ≡ message_at file tree.now n.0 code [] }
-{
-    Message {
-        file,
-        node: Some(n),
-        pos: tree.pos(n),
-        code,
-        args: Texts::new(alloc),
-    }
-}
-
-/// The node's name; nothing where it has none.
-pub(crate) fn name_at(tree: &Tree, n: NodeId) -> &str
-    requires { n.0 < count_of tree.now }
-    ensures { result.now ≡ name_at tree.now n.0 }
-{
-    match tree.name(n) {
-        Some(name) => name,
-        None => "",
-    }
-}
-
-/// Whether a name does not begin with `_`.
-pub(crate) fn is_public_name(name: &str) -> bool
-    ensures { result ≡ is_public_name name.now }
-{
-    match name.as_bytes() {
-        [first, ..] => *first != b'_',
-        [] => true,
-    }
-}
 
 fn any_docstring(tree: &Tree, kids: &[NodeId]) -> bool
     requires { All (λ k. k.0 < count_of tree.now) kids.now }
@@ -93,10 +58,10 @@ pub(crate) fn has_statement(tree: &Tree, n: NodeId) -> bool
 // 1 where the node stands in a block.
 fn block_part(tree: &Tree, n: NodeId) -> usize
     requires { n.0 < count_of tree.now }
-    ensures part { result ≡ (if is_in_block (kind_at tree.now n.0) then 1 else 0) }
+    ensures part { result ≡ (if is_in_body (kind_of tree.now n.0) then 1 else 0) }
     ensures few { result ≤ 1 }
 {
-    if is_in_block(tree.kind(n)) { 1 } else { 0 }
+    if is_in_body(tree.kind(n)) { 1 } else { 0 }
 }
 
 /// How many of these nodes stand in a block: statements, and a docstring.
@@ -113,27 +78,6 @@ pub(crate) fn block_len(tree: &Tree, kids: &[NodeId]) -> usize
     len
 }
 
-fn any_base(tree: &Tree, kids: &[NodeId]) -> bool
-    requires { All (λ k. k.0 < count_of tree.now) kids.now }
-    ensures { result ≡ has_base tree.now (map number_of kids.now) }
-{
-    let mut rest = kids;
-    while let [kid, tail @ ..] = rest {
-        if is_base(tree.kind(*kid)) {
-            return true;
-        }
-        rest = tail;
-    }
-    false
-}
-
-fn has_base(tree: &Tree, n: NodeId) -> bool
-    requires { n.0 < count_of tree.now }
-    ensures { result ≡ has_base tree.now (kids_at tree.now n.0) }
-{
-    any_base(tree, tree.kids(n))
-}
-
 fn is_plain_class(tree: &Tree, n: NodeId) -> bool
     requires { n.0 < count_of tree.now }
     ensures { result ≡ is_plain_class tree.now n.0 }
@@ -142,6 +86,7 @@ fn is_plain_class(tree: &Tree, n: NodeId) -> bool
 }
 
 // The nearest function or class above.
+#[tactic(auto, using(rule_nodes::proofs::Above::owner_root, rule_nodes::proofs::Above::owner_here, rule_nodes::proofs::Above::owner_on))]
 fn owner_of(tree: &Tree, n: NodeId) -> Option<NodeId>
     requires { n.0 < count_of tree.now }
     ensures owner { option_map number_of result ≡ owner_of tree.now n.0 }

@@ -5,9 +5,10 @@ ghost use Rattle.tree_nodes.specs.Kept.{number_of};
 ghost use Rattle.check_basic.specs.TreeRules.{pass_message, passes, unnecessary_passes};
 
 use crate::kinds::is_pass;
-use crate::nodes::{block_len, message_at};
+use crate::nodes::block_len;
 use lint_messages::{Code, Messages};
 use lint_values::{FileId, Memory, NodeId};
+use rule_nodes::message_at;
 use std::alloc::Global;
 use tree_nodes::Tree;
 

@@ -3,29 +3,31 @@ ghost use Rattle.std.specs.Prelude.{◌≡◌, ◌<◌, All, map, codes};
 ghost use Rattle.std.specs.Str.{bytes_eq};
 ghost use Rattle.tree_nodes.specs.Trees.{count_of, kids_at};
 ghost use Rattle.tree_nodes.specs.Kept.{number_of};
-ghost use Rattle.check_basic.specs.Kinds.{is_name};
-ghost use Rattle.check_basic.specs.Nodes.{kind_at, name_at, is_sole, is_setter_name, is_setter_mark, is_setter};
+ghost use Rattle.scope_rules.specs.Nodes.{kind_of};
+ghost use Rattle.scope_rules.specs.Reading.{is_read_name};
+ghost use Rattle.rule_nodes.specs.Nodes.{written};
+ghost use Rattle.check_basic.specs.Nodes.{is_sole, is_setter_name, is_setter_mark, is_setter};
 
-use crate::kinds::{is_attribute, is_decorator, is_name};
-use crate::nodes::name_at;
+use crate::kinds::is_attribute;
 use lint_values::NodeId;
+use rule_nodes::{is_decorator, is_read_name, written};
 use tree_nodes::Tree;
 
 fn is_sole_name(tree: &Tree, kids: &[NodeId]) -> bool
     requires { All (λ k. k.0 < count_of tree.now) kids.now }
-    ensures { result ≡ is_sole (λ k. is_name (kind_at tree.now k)) (map number_of kids.now) }
+    ensures { result ≡ is_sole (λ k. is_read_name (kind_of tree.now k)) (map number_of kids.now) }
 {
     match kids {
-        [kid] => is_name(tree.kind(*kid)),
+        [kid] => is_read_name(tree.kind(*kid)),
         _ => false,
     }
 }
 
 fn is_named_setter(tree: &Tree, n: NodeId) -> bool
     requires { n.0 < count_of tree.now }
-    ensures { result ≡ bytes_eq (name_at tree.now n.0) (codes "setter") }
+    ensures { result ≡ bytes_eq (written tree.now n.0) (codes "setter") }
 {
-    name_at(tree, n) == "setter"
+    written(tree, n) == "setter"
 }
 
 // `NAME.setter`.

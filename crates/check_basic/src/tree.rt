@@ -1,13 +1,12 @@
 // The checks of a tree, and its number of statements.
 ghost use Rattle.std.specs.Prelude.{◌≡◌, ◌<◌, ◌^◌, ◌≤◌, ◌++◌, if◌then◌else◌, IfOk, OnOk};
 ghost use Rattle.tree_nodes.specs.Trees.{count_of};
-ghost use Rattle.check_basic.specs.Kinds.{is_counted};
-ghost use Rattle.check_basic.specs.Nodes.{nodes, kind_at};
+ghost use Rattle.scope_rules.specs.Nodes.{kind_of, nodes_of};
+ghost use Rattle.rule_nodes.specs.Kinds.{is_counted};
 ghost use Rattle.check_basic.specs.TreeRules.{node_messages, nodes_messages, tree_messages, statement_count};
 
 use crate::docstrings::{check_class, check_function, check_module};
 use crate::imports::check_import;
-use crate::kinds::is_counted;
 use crate::logical::{check_multiple_statements, check_semicolons};
 use crate::passes::check_passes;
 use flow_rules::check_flow;
@@ -15,6 +14,7 @@ use lint_messages::Messages;
 use lint_values::{FileId, Memory, NodeId};
 use options::Options;
 use py_token::Tokens;
+use rule_nodes::is_counted;
 use std::alloc::Global;
 use tree_nodes::Tree;
 
@@ -39,7 +39,7 @@ fn check_node(
 
 // Adds the messages of all nodes.
 fn check_nodes(alloc: Global, file: FileId, tree: &Tree, found: &mut Messages) -> Result<(), Memory>
-    ensures { OnOk result (found.new ≡ found.old ++ nodes_messages file tree.now (nodes tree.now)) }
+    ensures { OnOk result (found.new ≡ found.old ++ nodes_messages file tree.now (nodes_of tree.now)) }
 {
     for n in 0..tree.count() {
         check_node(alloc, file, tree, NodeId(n), found)?;
@@ -68,7 +68,7 @@ pub fn check_tree(
 // 1 where the node counts as a statement.
 fn counted(tree: &Tree, n: NodeId) -> u64
     requires { n.0 < count_of tree.now }
-    ensures part { result ≡ (if is_counted (kind_at tree.now n.0) then 1 else 0) }
+    ensures part { result ≡ (if is_counted (kind_of tree.now n.0) then 1 else 0) }
     ensures few { result ≤ 1 }
 {
     if is_counted(tree.kind(n)) { 1 } else { 0 }

@@ -21,7 +21,7 @@ use Rattle.scope_rules.specs.Binding.{makes_local, binds, is_bare, own_scope}
 use Rattle.scope_rules.specs.Marks.{Mark, is_mark, mark_in, mark_at, some_node}
 use Rattle.scope_rules.specs.Declaring.{local_mark, has, home, binder_mark, binder_mark_of, in_module, is_local, declares_global, declares_nonlocal}
 use Rattle.scope_rules.specs.Answers.{AreNamesOf}
-use Rattle.check_names.specs.Nodes.{is_public}
+use Rattle.rule_nodes.specs.Nodes.{is_public}
 use Rattle.check_names.specs.Locals.{local_names, local_count}
 
 -- ---- truth values

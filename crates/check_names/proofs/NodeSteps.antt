@@ -1,19 +1,8 @@
--- One more node: what it adds to the messages, and to a test of some node.
-use Rattle.std.proofs.Common.{◌≡◌, ℕ, ◌+◌, Bool, true, false, ◌||◌, List, [], ◌∷◌, ◌++◌, refl, sym, ap, ◌∙◌, append_assoc}
-use Rattle.std.specs.List.{flat_map, list_any}
-use Rattle.std.proofs.lemmas.Grind.{flat_map-append}
-use Rattle.std.proofs.lemmas.List.{append-nil}
-use Rattle.lint_messages.specs.declared.message.Message.{Message}
+-- One more node: what it adds to a test of some node.
+use Rattle.std.proofs.Common.{◌≡◌, ℕ, ◌+◌, Bool, true, false, ◌||◌, List, [], ◌∷◌, ◌++◌, refl, sym, ap, ◌∙◌}
+use Rattle.std.specs.List.{list_any}
 use Rattle.scope_rules.specs.Nodes.{below}
 use Rattle.scope_bind.proofs.ListLaws.{below_more}
-
-found-more : (f : ℕ → List Message) (n : ℕ) → flat_map f (below (n + 1)) ≡ flat_map f (below n) ++ f n
-found-more f n = ap (flat_map f) (below_more n) ∙ flat_map-append f (below n) (n ∷ []) ∙ ap (λ (ms : List Message). flat_map f (below n) ++ ms) (append-nil (f n))
-
--- what one more node has joins what was found
-pub nodes_on : (f : ℕ → List Message) (n : ℕ) (start old new : List Message) → old ≡ start ++ flat_map f (below n) → new ≡ old ++ f n → new ≡ start ++ flat_map f (below (n + 1))
-nodes_on f n start old new so_far e =
-    e ∙ ap (λ (ms : List Message). ms ++ f n) so_far ∙ append_assoc start (flat_map f (below n)) (f n) ∙ ap (λ (ms : List Message). start ++ ms) (sym (found-more f n))
 
 or-assoc : (a b c : Bool) → ((a || b) || c) ≡ (a || (b || c))
 or-assoc true b c = refl

@@ -12,7 +12,7 @@ use Rattle.scope_rules.specs.Mangling.{spelled}
 use Rattle.scope_rules.specs.Binding.{own_scope}
 use Rattle.scope_rules.specs.Declaring.{is_global}
 use Rattle.scope_rules.specs.Answers.{binders_of}
-use Rattle.check_names.specs.Nodes.{message_at, due, of_nodes}
+use Rattle.rule_nodes.specs.Nodes.{message_at, due, of_nodes}
 
 -- a binder of the module's name stands in that scope, or in its comprehensions as a walrus
 abbrev pub binds_global : Tree → ℕ → Option Name → Bool

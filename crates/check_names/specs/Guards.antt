@@ -9,7 +9,7 @@ use Rattle.scope_rules.specs.Nodes.{kind_of}
 use Rattle.scope_rules.specs.Binding.{is_handler}
 use Rattle.scope_rules.specs.Reading.{is_read_name}
 use Rattle.check_names.specs.Kinds.{is_try, is_clause, is_tuple}
-use Rattle.check_names.specs.Nodes.{written}
+use Rattle.rule_nodes.specs.Nodes.{written}
 
 -- `NameError`
 abbrev pub is_name_error : Tree → ℕ → Bool

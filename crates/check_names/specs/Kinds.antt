@@ -3,16 +3,12 @@ use Rattle.std.specs.Prelude.{Bool, true, false, ◌||◌}
 use Rattle.tree_nodes.specs.declared.kind.Kind.{Kind}
 use Rattle.tree_nodes.specs.declared.kind.Kind.TheVariants as kinds
 use Rattle.scope_rules.specs.Kinds.{is_def}
+use Rattle.rule_nodes.specs.Kinds.{is_module}
 
 -- the `*` of an import
 unfoldable pub is_wildcard : Kind → Bool
 is_wildcard kinds.ImportWildcard = true
 is_wildcard kind = false
-
--- `from .. import ..`
-unfoldable pub is_import_from : Kind → Bool
-is_import_from kinds.ImportFrom = true
-is_import_from kind = false
 
 unfoldable pub is_try : Kind → Bool
 is_try kinds.Try = true
@@ -29,10 +25,6 @@ is_clause kind = false
 unfoldable pub is_tuple : Kind → Bool
 is_tuple kinds.Tuple = true
 is_tuple kind = false
-
-unfoldable pub is_module : Kind → Bool
-is_module kinds.Module = true
-is_module kind = false
 
 -- the scopes in which a binder hides a builtin for good: the module and functions that have a name
 abbrev pub is_module_or_def : Kind → Bool

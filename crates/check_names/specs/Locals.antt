@@ -12,7 +12,7 @@ use Rattle.scope_rules.specs.Kinds.{is_def}
 use Rattle.scope_rules.specs.Nodes.{Name, kind_of, nodes_of}
 use Rattle.scope_rules.specs.Binding.{makes_local}
 use Rattle.scope_rules.specs.Declaring.{is_local}
-use Rattle.check_names.specs.Nodes.{message_at, due, of_nodes, is_public}
+use Rattle.rule_nodes.specs.Nodes.{message_at, due, of_nodes, is_public}
 
 -- the public names that are local to a scope, parameters among them, each once or more
 abbrev pub local_names : Tree → ℕ → List Name

@@ -1,5 +1,5 @@
 -- The messages on names of a file.
-use Rattle.std.specs.Prelude.{ℕ, Bool, false, List, ◌++◌, Option, None, Some, slice_get}
+use Rattle.std.specs.Prelude.{Bool, false, List, ◌++◌, Option, None, Some, slice_get}
 use Rattle.lint_values.specs.declared.place.FileId.{FileId}
 use Rattle.lint_messages.specs.declared.message.Message.{Message}
 use Rattle.options.specs.Settings.{Settings}

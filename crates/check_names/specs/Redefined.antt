@@ -11,7 +11,8 @@ use Rattle.scope_rules.specs.Nodes.{Name, kind_of, first, is_number}
 use Rattle.scope_rules.specs.Places.{around, chain}
 use Rattle.scope_rules.specs.Answers.{binders_of}
 use Rattle.check_names.specs.Kinds.{is_module_or_def}
-use Rattle.check_names.specs.Nodes.{message_at, due, of_nodes, public_name}
+use Rattle.rule_nodes.specs.Nodes.{message_at, due, of_nodes}
+use Rattle.check_names.specs.Nodes.{public_name}
 
 -- a name in the table of builtin names; all of them are public
 abbrev pub is_builtin_name : Name → Bool

@@ -10,7 +10,8 @@ use Rattle.scope_rules.specs.declared.scope.Where.TheVariants.{Nowhere}
 use Rattle.scope_rules.specs.Nodes.{Name, kind_of, nodes_of}
 use Rattle.scope_rules.specs.Reading.{is_read_name, resolved}
 use Rattle.check_names.specs.Kinds.{is_wildcard}
-use Rattle.check_names.specs.Nodes.{written, message_at, due, of_nodes, is_among}
+use Rattle.rule_nodes.specs.Nodes.{written, message_at, due, of_nodes}
+use Rattle.check_names.specs.Nodes.{is_among}
 use Rattle.check_names.specs.Guards.{is_guarded}
 
 abbrev pub is_nowhere : Where → Bool

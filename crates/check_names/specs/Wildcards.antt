@@ -6,8 +6,9 @@ use Rattle.lint_messages.specs.declared.code.Code.TheVariants.{WildcardImport}
 use Rattle.lint_messages.specs.declared.message.Message.{Message}
 use Rattle.tree_nodes.specs.Trees.{Tree, kids_at}
 use Rattle.scope_rules.specs.Nodes.{kind_of}
-use Rattle.check_names.specs.Kinds.{is_wildcard, is_import_from}
-use Rattle.check_names.specs.Nodes.{written, message_at, due, of_nodes}
+use Rattle.rule_nodes.specs.Kinds.{is_import_from}
+use Rattle.check_names.specs.Kinds.{is_wildcard}
+use Rattle.rule_nodes.specs.Nodes.{written, message_at, due, of_nodes}
 
 -- `from .. import *`
 abbrev pub imports_all : Tree → ℕ → Bool

@@ -11,8 +11,8 @@ ghost use Rattle.scope_rules.specs.Reading.{resolved};
 ghost use Rattle.scope_rules.specs.Answers.{binders_of};
 ghost use Rattle.scope_bind.specs.Scoped.{AreScopesOf};
 
-use crate::kinds::{is_comprehension, is_walrus};
 use lint_values::NodeId;
+use rule_nodes::{is_comprehension, is_walrus};
 use scope_bind::{ScopeId, Scopes, Where};
 use tree_nodes::Tree;
 

@@ -10,10 +10,10 @@ ghost use Rattle.scope_bind.specs.Scoped.{AreScopesOf};
 ghost use Rattle.check_names.specs.Globals.{binds_global, binds_one, is_used_global, global_statement, global_statements};
 
 use crate::asked::{around, binders, own_scope, spelled};
-use crate::kinds::{is_def, is_global};
-use crate::nodes::message_at;
+use crate::kinds::is_global;
 use lint_messages::{Code, Messages};
 use lint_values::{FileId, Memory, NodeId};
+use rule_nodes::{is_def, message_at};
 use scope_bind::Scopes;
 use std::alloc::Global;
 use tree_nodes::Tree;

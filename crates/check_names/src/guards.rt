@@ -5,13 +5,13 @@ ghost use Rattle.std.specs.Str.{bytes_eq};
 ghost use Rattle.tree_nodes.specs.Trees.{count_of, kids_at, parent_at};
 ghost use Rattle.tree_nodes.specs.Kept.{number_of};
 ghost use Rattle.scope_bind.specs.Lists.{IsListOf, IsListUpTo};
-ghost use Rattle.check_names.specs.Nodes.{written};
+ghost use Rattle.rule_nodes.specs.Nodes.{written};
 ghost use Rattle.check_names.specs.Guards.{is_name_error, holds_name_error, catches_by, catches, is_guard, is_guarded};
 
-use crate::kinds::{is_clause, is_handler, is_in_body, is_name, is_try, is_tuple};
-use crate::nodes::written;
+use crate::kinds::{is_clause, is_try, is_tuple};
 use crate::truth::{both, either};
 use lint_values::{Memory, NodeId};
+use rule_nodes::{is_handler, is_in_body, is_read_name, written};
 use std::alloc::Global;
 use tree_nodes::Tree;
 
@@ -27,7 +27,7 @@ fn is_name_error(tree: &Tree, n: NodeId) -> bool
     requires { n.0 < count_of tree.now }
     ensures { result ≡ is_name_error tree.now n.0 }
 {
-    is_name(tree.kind(n)) && is_named_name_error(tree, n)
+    is_read_name(tree.kind(n)) && is_named_name_error(tree, n)
 }
 
 /// Whether some of these nodes is `NameError`.

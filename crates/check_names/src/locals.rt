@@ -5,13 +5,12 @@ ghost use Rattle.std.specs.List.{count_by};
 ghost use Rattle.tree_nodes.specs.Trees.{count_of};
 ghost use Rattle.lint_messages.specs.declared.code.Code.TheVariants.{TooManyLocals};
 ghost use Rattle.scope_bind.specs.Scoped.{AreScopesOf};
-ghost use Rattle.check_names.specs.Nodes.{is_public, message_at, due};
+ghost use Rattle.rule_nodes.specs.Nodes.{is_public, message_at, due};
 ghost use Rattle.check_names.specs.Locals.{local_count, too_many, too_many_locals};
 
-use crate::kinds::is_def;
-use crate::public::is_public;
 use lint_messages::{Code, Message, Messages};
 use lint_values::{FileId, Memory, NodeId, Text, Texts};
+use rule_nodes::{is_def, is_public, message_with, number_text};
 use scope_bind::{ScopeId, Scopes};
 use std::alloc::Global;
 use tree_nodes::Tree;
@@ -32,12 +31,6 @@ fn local_count(tree: &Tree, scopes: &Scopes, scope: NodeId) -> usize
     public_count(scopes.names(ScopeId(scope.0)))
 }
 
-fn number_text(alloc: Global, n: usize) -> Result<Text, Memory>
-    ensures { IfOk result (λ text. text ≡ decimal n) }
-{
-    Ok(Text::from_string(format!(in alloc; "{n}")?))
-}
-
 /// The message of a function, with how many there are and how many are allowed.
 fn locals_message(
     alloc: Global,
@@ -51,15 +44,9 @@ fn locals_message(
     ensures { IfOk result (λ message. message ≡ message_at file tree.now n.0 TooManyLocals (decimal count ∷ decimal most ∷ [])) }
 {
     let mut args = Texts::new(alloc);
-    args.push(number_text(alloc, count)?)?;
-    args.push(number_text(alloc, most as usize)?)?;
-    Ok(Message {
-        file,
-        node: Some(n),
-        pos: tree.pos(n),
-        code: Code::TooManyLocals,
-        args,
-    })
+    args.push(number_text(alloc, count as u64)?)?;
+    args.push(number_text(alloc, u64::from(most))?)?;
+    Ok(message_with(file, tree, n, Code::TooManyLocals, args))
 }
 
 /// Adds the message of a function with so many local names.

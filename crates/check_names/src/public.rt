@@ -5,23 +5,14 @@ ghost use Rattle.scope_rules.specs.Nodes.{first};
 ghost use Rattle.scope_rules.specs.Mangling.{spelled};
 ghost use Rattle.scope_rules.specs.Binding.{before_dot, imported, is_below, is_handler, handled, makes_local_else};
 ghost use Rattle.scope_bind.specs.Scoped.{AreScopesOf};
-ghost use Rattle.check_names.specs.Nodes.{is_public, public_of, public_name};
+ghost use Rattle.rule_nodes.specs.Nodes.{is_public};
+ghost use Rattle.check_names.specs.Nodes.{public_of, public_name};
 
 use crate::asked::spelled;
-use crate::kinds::{is_alias, is_as_name, is_binder, is_handler};
 use lint_values::NodeId;
+use rule_nodes::{is_alias, is_as_name, is_binder, is_handler, is_public};
 use scope_bind::Scopes;
 use tree_nodes::Tree;
-
-/// Whether a name does not begin with `_`.
-pub(crate) fn is_public(name: &str) -> bool
-    ensures { result ≡ is_public name.now }
-{
-    match name.as_bytes() {
-        [first, ..] => *first != b'_',
-        [] => true,
-    }
-}
 
 /// The name, where there is one that is public.
 fn public_of<'n>(name: Option<&'n str>) -> Option<&'n str>

@@ -11,10 +11,10 @@ ghost use Rattle.check_names.specs.Redefined.{is_builtin_name, is_first_binder, 
 
 use crate::asked::{around, binders};
 use crate::kinds::is_module_or_def;
-use crate::nodes::message_on;
 use crate::public::public_name;
 use lint_messages::{Code, Messages};
-use lint_values::{FileId, Memory, NodeId};
+use lint_values::{FileId, Memory, NodeId, Text};
+use rule_nodes::message_on;
 use scope_bind::Scopes;
 use scope_rules::BUILTIN_NAMES;
 use std::alloc::Global;
@@ -100,7 +100,8 @@ fn check_bound(
     ensures { OnOk result (found.new ≡ found.old ++ redefined_by file tree.now n.0 (Some name.now)) }
 {
     if is_redefined(tree, scopes, n, name) {
-        found.push(message_on(alloc, file, tree, n, Code::RedefinedBuiltin, name)?)?;
+        let text = Text::from_str(alloc, name)?;
+        found.push(message_on(alloc, file, tree, n, Code::RedefinedBuiltin, text)?)?;
     }
     Ok(())
 }

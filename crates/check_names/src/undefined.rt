@@ -3,17 +3,19 @@ ghost use Rattle.std.specs.Prelude.{◌≡◌, ◌<◌, ◌++◌, OnOk};
 ghost use Rattle.tree_nodes.specs.Trees.{count_of};
 ghost use Rattle.scope_bind.specs.Lists.{IsListOf};
 ghost use Rattle.scope_bind.specs.Scoped.{AreScopesOf};
-ghost use Rattle.check_names.specs.Nodes.{written, is_among, of_nodes};
+ghost use Rattle.rule_nodes.specs.Nodes.{written, of_nodes};
+ghost use Rattle.check_names.specs.Nodes.{is_among};
 ghost use Rattle.check_names.specs.Guards.{is_guarded};
 ghost use Rattle.check_names.specs.Undefined.{is_nowhere, leads_nowhere, is_undefined, undefined_variable, has_wildcard, undefined_variables};
 
 use crate::asked::resolved;
 use crate::guards::{guarded_of, is_guarded};
-use crate::kinds::{is_name, is_wildcard};
-use crate::nodes::{is_among, message_on, written};
+use crate::kinds::is_wildcard;
+use crate::nodes::is_among;
 use crate::truth::either;
 use lint_messages::{Code, Messages};
 use lint_values::{FileId, Memory, NodeId, Text};
+use rule_nodes::{is_read_name, message_on, written};
 use scope_bind::{Scopes, Where};
 use std::alloc::Global;
 use tree_nodes::Tree;
@@ -33,7 +35,7 @@ fn leads_nowhere(tree: &Tree, scopes: &Scopes, n: NodeId) -> bool
     requires made { n.0 < count_of tree.now }
     ensures { result ≡ leads_nowhere tree.now n.0 }
 {
-    if is_name(tree.kind(n)) {
+    if is_read_name(tree.kind(n)) {
         is_nowhere(resolved(tree, scopes, n))
     } else {
         false
@@ -82,7 +84,8 @@ fn check_read(
 {
     if is_undefined(tree, scopes, additional, guarded, n) {
         let name = written(tree, n);
-        found.push(message_on(alloc, file, tree, n, Code::UndefinedVariable, name)?)?;
+        let text = Text::from_str(alloc, name)?;
+        found.push(message_on(alloc, file, tree, n, Code::UndefinedVariable, text)?)?;
     }
     Ok(())
 }

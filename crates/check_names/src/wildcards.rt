@@ -5,13 +5,13 @@ ghost use Rattle.tree_nodes.specs.Trees.{count_of, kids_at};
 ghost use Rattle.tree_nodes.specs.Kept.{number_of};
 ghost use Rattle.scope_rules.specs.Nodes.{kind_of};
 ghost use Rattle.check_names.specs.Kinds.{is_wildcard};
-ghost use Rattle.check_names.specs.Nodes.{of_nodes};
+ghost use Rattle.rule_nodes.specs.Nodes.{of_nodes};
 ghost use Rattle.check_names.specs.Wildcards.{imports_all, wildcard_import, wildcard_imports};
 
-use crate::kinds::{is_import_from, is_wildcard};
-use crate::nodes::{message_on, written};
+use crate::kinds::is_wildcard;
 use lint_messages::{Code, Messages};
-use lint_values::{FileId, Memory, NodeId};
+use lint_values::{FileId, Memory, NodeId, Text};
+use rule_nodes::{is_import_from, message_on, written};
 use std::alloc::Global;
 use tree_nodes::Tree;
 
@@ -58,7 +58,8 @@ fn check_import(
 {
     if imports_all(tree, n) {
         let name = written(tree, n);
-        found.push(message_on(alloc, file, tree, n, Code::WildcardImport, name)?)?;
+        let text = Text::from_str(alloc, name)?;
+        found.push(message_on(alloc, file, tree, n, Code::WildcardImport, text)?)?;
     }
     Ok(())
 }

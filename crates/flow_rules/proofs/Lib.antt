@@ -1,4 +1,4 @@
-pub mod Above
+pub mod Around
 pub mod ListLaws
 pub mod NodeSteps
 pub mod TotalLaws

@@ -1,15 +1,13 @@
 -- Lists that say something of each node: how they begin, grow and are read.
-use Rattle.std.proofs.Common.{◌≡◌, ℕ, ◌+◌, ◌<◌, List, [], ◌∷◌, ◌++◌, length, get_or, map, refl, sym, ap, ◌∙◌, arith, add-one}
+use Rattle.std.proofs.Common.{◌≡◌, ℕ, ◌+◌, ◌<◌, List, [], ◌∷◌, ◌++◌, length, get_or, map, refl, sym, ap, ◌∙◌, arith}
 use Rattle.std.proofs.lemmas.List.{map-append, length-map, get_or-map}
 use Rattle.scope_rules.specs.Nodes.{below}
 use Rattle.scope_rules.proofs.Answering.{length-below, get-below}
+use Rattle.rule_nodes.proofs.Below.{below_more}
 use Rattle.flow_rules.specs.Tables.{IsListUpTo}
 
 pub list_none : {X : Type 0} (f : ℕ → X) → IsListUpTo f 0 []
 list_none f = record { is = refl }
-
-pub below_more : (n : ℕ) → below (n + 1) ≡ below n ++ n ∷ []
-below_more n = rw add-one refl
 
 pub list_more : {X : Type 0} (f : ℕ → X) (n : ℕ) (xs : List X) (y : X) → IsListUpTo f n xs → y ≡ f n → IsListUpTo f (n + 1) (xs ++ y ∷ [])
 list_more {X} f n xs y h e =

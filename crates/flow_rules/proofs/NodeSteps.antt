@@ -1,29 +1,17 @@
 -- One more node, and one node fewer of those that are left.
 use Rattle.std.proofs.Common.{◌≡◌, ℕ, suc, ◌+◌, ◌<◌, Bool, true, false, cond, List, [], ◌∷◌, ◌++◌, map, refl, sym, ap, ◌∙◌, append_assoc, arith}
 use Rattle.std.specs.Prelude.{All}
-use Rattle.std.specs.List.{flat_map}
-use Rattle.std.proofs.lemmas.Grind.{flat_map-append}
-use Rattle.std.proofs.lemmas.List.{append-nil}
 use Rattle.std.proofs.lemmas.List.Sums.{sum_by-cons}
 use Rattle.lint_values.specs.declared.place.FileId.{FileId}
 use Rattle.lint_values.specs.declared.place.NodeId.{NodeId}
 use Rattle.lint_messages.specs.declared.message.Message.{Message}
 use Rattle.tree_nodes.specs.Trees.{Tree, count_of}
 use Rattle.tree_nodes.specs.Kept.{number_of}
-use Rattle.scope_rules.specs.Nodes.{below, kind_of}
-use Rattle.flow_rules.specs.Kinds.{is_statement}
+use Rattle.scope_rules.specs.Nodes.{kind_of}
+use Rattle.rule_nodes.specs.Kinds.{is_statement}
 use Rattle.flow_rules.specs.Nodes.{statements_in}
 use Rattle.flow_rules.specs.Sizes.{is_counted_parameter, parameters_among}
 use Rattle.flow_rules.specs.Unreachable.{unreachable_at, unreachable_behind}
-use Rattle.flow_rules.proofs.ListLaws.{below_more}
-
-found-more : (f : ℕ → List Message) (n : ℕ) → flat_map f (below (n + 1)) ≡ flat_map f (below n) ++ f n
-found-more f n = ap (flat_map f) (below_more n) ∙ flat_map-append f (below n) (n ∷ []) ∙ ap (λ (ms : List Message). flat_map f (below n) ++ ms) (append-nil (f n))
-
--- what one more node has joins what was found
-pub nodes_on : (f : ℕ → List Message) (n : ℕ) (start old new : List Message) → old ≡ start ++ flat_map f (below n) → new ≡ old ++ f n → new ≡ start ++ flat_map f (below (n + 1))
-nodes_on f n start old new so_far e =
-    e ∙ ap (λ (ms : List Message). ms ++ f n) so_far ∙ append_assoc start (flat_map f (below n)) (f n) ∙ ap (λ (ms : List Message). start ++ ms) (sym (found-more f n))
 
 -- what the first of some things adds, of which the others add more, joins what was found
 pub rest_on : {X Y : Type 0} (g : List Y → List X) (here : List X) (rest tail : List Y) (y : Y) (old new whole : List X) → rest ≡ y ∷ tail → g (y ∷ tail) ≡ here ++ g tail → new ≡ old ++ here → old ++ g rest ≡ whole

@@ -14,7 +14,7 @@ use Rattle.tree_nodes.specs.Trees.{Tree}
 use Rattle.tree_nodes.specs.Kept.{number_of}
 use Rattle.scope_rules.specs.Nodes.{Name}
 use Rattle.flow_rules.specs.declared.definition.Definition.{Definition}
-use Rattle.flow_rules.specs.Nodes.{written}
+use Rattle.rule_nodes.specs.Nodes.{written}
 use Rattle.flow_rules.specs.Redefined.{is_plain, last_of, line_at, line_of, redefined_by, redefined_at, redefined_behind}
 use Rattle.flow_rules.specs.Tables.{line_in, HasLines, IsOver}
 

@@ -9,11 +9,12 @@ use Rattle.tree_nodes.specs.Trees.{Tree, count_of}
 use Rattle.scope_rules.specs.Nodes.{below, kind_of, is_number}
 use Rattle.flow_rules.specs.declared.size.Size.{Size}
 use Rattle.flow_rules.specs.declared.size.Size.TheVariants as sizes
-use Rattle.flow_rules.specs.Kinds.{is_return, is_branch, is_finally, is_counted}
-use Rattle.flow_rules.specs.Outwards.{owner_of}
+use Rattle.rule_nodes.specs.Kinds.{is_counted}
+use Rattle.flow_rules.specs.Kinds.{is_return, is_branch, is_finally}
+use Rattle.rule_nodes.specs.Outwards.{owner_of}
 use Rattle.flow_rules.specs.Sizes.{one_if, part_of, part_in}
 use Rattle.flow_rules.specs.Tables.{total_up_to, AreTotalled, AreTotals, with_part}
-use Rattle.flow_rules.proofs.ListLaws.{below_more}
+use Rattle.rule_nodes.proofs.Below.{below_more}
 
 -- ---- a part is small
 

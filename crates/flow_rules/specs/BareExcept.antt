@@ -6,8 +6,10 @@ use Rattle.lint_messages.specs.declared.message.Message.{Message}
 use Rattle.tree_nodes.specs.Trees.{Tree, kids_at}
 use Rattle.scope_rules.specs.Nodes.{kind_of}
 use Rattle.flow_rules.specs.declared.rule.Rule.TheVariants.{BareExcept}
-use Rattle.flow_rules.specs.Kinds.{is_handler, is_raise, is_statement}
-use Rattle.flow_rules.specs.Nodes.{message_at, due}
+use Rattle.rule_nodes.specs.Kinds.{is_statement}
+use Rattle.flow_rules.specs.Kinds.{is_handler, is_raise}
+use Rattle.rule_nodes.specs.Nodes.{due}
+use Rattle.flow_rules.specs.Nodes.{message_of}
 
 -- nothing but statements: no type stands before them
 abbrev pub are_statements : Tree → List ℕ → Bool
@@ -23,4 +25,4 @@ swallows_all t kids = are_statements t kids && not (has_raise t kids)
 
 -- bare-except
 abbrev pub bare_except : FileId → Tree → ℕ → List Message
-bare_except file t n = due (is_handler (kind_of t n) && swallows_all t (kids_at t n)) (message_at file t n BareExcept [])
+bare_except file t n = due (is_handler (kind_of t n) && swallows_all t (kids_at t n)) (message_of file t n BareExcept [])

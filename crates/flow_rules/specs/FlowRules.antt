@@ -8,7 +8,7 @@ use Rattle.tree_nodes.specs.Trees.{Tree}
 use Rattle.flow_rules.specs.declared.rule.Rule.{Rule}
 use Rattle.flow_rules.specs.declared.rule.Rule.TheVariants.{Unreachable, BareExcept, FunctionRedefined, NotInLoop, ReturnOutsideFunction, TooManyReturnStatements, TooManyBranches, TooManyArguments, TooManyStatements}
 use Rattle.flow_rules.specs.declared.rule.TheConstants.{ALL_RULES}
-use Rattle.flow_rules.specs.Nodes.{of_nodes}
+use Rattle.rule_nodes.specs.Nodes.{of_nodes}
 use Rattle.flow_rules.specs.Unreachable.{unreachable}
 use Rattle.flow_rules.specs.BareExcept.{bare_except}
 use Rattle.flow_rules.specs.Redefined.{function_redefined}

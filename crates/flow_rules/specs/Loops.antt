@@ -6,12 +6,13 @@ use Rattle.tree_nodes.specs.Trees.{Tree}
 use Rattle.scope_rules.specs.Nodes.{Name, kind_of}
 use Rattle.flow_rules.specs.declared.rule.Rule.TheVariants.{NotInLoop}
 use Rattle.flow_rules.specs.Kinds.{is_break, is_continue}
-use Rattle.flow_rules.specs.Nodes.{message_at, due}
+use Rattle.rule_nodes.specs.Nodes.{due}
+use Rattle.flow_rules.specs.Nodes.{message_of}
 use Rattle.flow_rules.specs.Outwards.{in_loop}
 
 -- the message names the statement by its word
 abbrev pub outside_loop : FileId → Tree → ℕ → Bool → Name → List Message
-outside_loop file t n is_such word = due (is_such && not (in_loop t n)) (message_at file t n NotInLoop (word ∷ []))
+outside_loop file t n is_such word = due (is_such && not (in_loop t n)) (message_of file t n NotInLoop (word ∷ []))
 
 -- not-in-loop
 abbrev pub not_in_loop : FileId → Tree → ℕ → List Message

@@ -1,7 +1,6 @@
 -- function-redefined: a function or class whose name another one of its kind has before it in the same block.
 use Rattle.std.specs.Prelude.{ℕ, Bool, not, ◌&&◌, if◌then◌else◌, List, [], ◌∷◌, ◌++◌, Option, Some, None, codes, find}
 use Rattle.std.specs.Fmt.{decimal}
-use Rattle.std.specs.List.{list_any}
 use Rattle.std.specs.Str.{bytes_eq}
 use Rattle.lint_values.specs.declared.place.FileId.{FileId}
 use Rattle.lint_messages.specs.declared.message.Message.{Message}
@@ -12,18 +11,16 @@ use Rattle.scope_rules.specs.Nodes.{Name, kind_of}
 use Rattle.flow_rules.specs.declared.rule.Rule.TheVariants.{FunctionRedefined}
 use Rattle.flow_rules.specs.declared.definition.Definition.{Definition}
 use Rattle.flow_rules.specs.declared.definition.Definition.TheVariants as definitions
-use Rattle.flow_rules.specs.Kinds.{is_decorator}
-use Rattle.flow_rules.specs.Nodes.{message_at, written, is_public, block}
-use Rattle.flow_rules.specs.Outwards.{owner_of, is_class_there}
+use Rattle.rule_nodes.specs.Nodes.{written, is_public}
+use Rattle.flow_rules.specs.Nodes.{message_of, block}
+use Rattle.rule_nodes.specs.Outwards.{owner_of}
+use Rattle.rule_nodes.specs.Parts.{has_decorator}
+use Rattle.flow_rules.specs.Outwards.{is_class_there}
 
 -- functions and classes are told apart; `async def` and `def` are not
 abbrev pub is_of : Definition → Kind → Bool
 is_of definitions.Function kind = is_def kind
 is_of definitions.Class kind = is_class kind
-
--- one of these nodes is a decorator
-abbrev pub has_decorator : Tree → List ℕ → Bool
-has_decorator t kids = list_any (λ k. is_decorator (kind_of t k)) kids
 
 -- what takes part: it has a public name, and no decorator that may keep what was there before
 abbrev pub is_plain : Definition → Tree → ℕ → Bool
@@ -53,7 +50,7 @@ line_at t n = (node_at t n).pos.line
 -- the message, where another one stands at a line before it
 abbrev pub redefined_by : Definition → FileId → Tree → ℕ → Option ℕ → List Message
 redefined_by sort file t n None = []
-redefined_by sort file t n (Some line) = message_at file t n FunctionRedefined (word_of sort t n ∷ decimal line ∷ []) ∷ []
+redefined_by sort file t n (Some line) = message_of file t n FunctionRedefined (word_of sort t n ∷ decimal line ∷ []) ∷ []
 
 -- the line of a node, if there is one
 abbrev pub line_of : Tree → Option ℕ → Option ℕ

@@ -13,9 +13,11 @@ use Rattle.flow_rules.specs.declared.rule.Rule.{Rule}
 use Rattle.flow_rules.specs.declared.rule.Rule.TheVariants.{TooManyReturnStatements, TooManyBranches, TooManyArguments, TooManyStatements}
 use Rattle.flow_rules.specs.declared.size.Size.{Size}
 use Rattle.flow_rules.specs.declared.size.Size.TheVariants as sizes
-use Rattle.flow_rules.specs.Kinds.{is_return, is_branch, is_finally, is_counted, is_single_parameter}
-use Rattle.flow_rules.specs.Nodes.{message_at, due, written, is_public}
-use Rattle.flow_rules.specs.Outwards.{owner_of}
+use Rattle.rule_nodes.specs.Kinds.{is_counted}
+use Rattle.flow_rules.specs.Kinds.{is_return, is_branch, is_finally, is_single_parameter}
+use Rattle.rule_nodes.specs.Nodes.{due, written, is_public}
+use Rattle.flow_rules.specs.Nodes.{message_of}
+use Rattle.rule_nodes.specs.Outwards.{owner_of}
 
 -- 1 where it is so
 abbrev pub one_if : Bool → ℕ
@@ -53,7 +55,7 @@ parameter_count t d = parameters_among t (kids_at t d)
 
 -- a function with more than is allowed: the message tells both numbers
 abbrev pub too_many : FileId → Tree → Rule → ℕ → ℕ → ℕ → List Message
-too_many file t rule count most n = due (is_def (kind_of t n) && nat_lt most count) (message_at file t n rule (decimal count ∷ decimal most ∷ []))
+too_many file t rule count most n = due (is_def (kind_of t n) && nat_lt most count) (message_of file t n rule (decimal count ∷ decimal most ∷ []))
 
 -- too-many-return-statements
 abbrev pub too_many_returns : Options → FileId → Tree → ℕ → List Message

@@ -11,7 +11,8 @@ use Rattle.flow_rules.specs.declared.definition.Definition.{Definition}
 use Rattle.flow_rules.specs.declared.size.Size.{Size}
 use Rattle.flow_rules.specs.declared.size.Size.TheVariants as sizes
 use Rattle.flow_rules.specs.declared.tables.Tables.{Tables}
-use Rattle.flow_rules.specs.Outwards.{owner_of, in_loop}
+use Rattle.rule_nodes.specs.Outwards.{owner_of}
+use Rattle.flow_rules.specs.Outwards.{in_loop}
 use Rattle.flow_rules.specs.Redefined.{last_of, line_of, redefined_at}
 use Rattle.flow_rules.specs.Sizes.{part_in, total}
 

@@ -5,8 +5,10 @@ use Rattle.lint_messages.specs.declared.message.Message.{Message}
 use Rattle.tree_nodes.specs.Trees.{Tree, kids_at}
 use Rattle.scope_rules.specs.Nodes.{kind_of}
 use Rattle.flow_rules.specs.declared.rule.Rule.TheVariants.{Unreachable}
-use Rattle.flow_rules.specs.Kinds.{is_jump, is_return, is_expression_statement, is_yield}
-use Rattle.flow_rules.specs.Nodes.{message_at, due, block}
+use Rattle.rule_nodes.specs.Kinds.{is_expression_statement}
+use Rattle.flow_rules.specs.Kinds.{is_jump, is_return, is_yield}
+use Rattle.rule_nodes.specs.Nodes.{due}
+use Rattle.flow_rules.specs.Nodes.{message_of, block}
 
 -- there is one node, and it is `yield`
 abbrev pub is_sole_yield : Tree → List ℕ → Bool
@@ -27,7 +29,7 @@ is_cut_off t jump n = is_jump (kind_of t jump) && not (is_empty_generator t jump
 
 -- a statement, and the one directly before it
 abbrev pub unreachable_at : FileId → Tree → ℕ → ℕ → List Message
-unreachable_at file t jump n = due (is_cut_off t jump n) (message_at file t n Unreachable [])
+unreachable_at file t jump n = due (is_cut_off t jump n) (message_of file t n Unreachable [])
 
 -- statements of a block behind another, each with the one before it
 abbrev pub unreachable_behind : FileId → Tree → ℕ → List ℕ → List Message

@@ -2,8 +2,9 @@
 ghost use Rattle.std.specs.Prelude.{◌≡◌};
 ghost use Rattle.flow_rules.specs.Sizes.{one_if, branches_of, part_of};
 
-use crate::kinds::{is_branch, is_counted, is_finally, is_return};
+use crate::kinds::{is_branch, is_finally, is_return};
 use crate::size::Size;
+use rule_nodes::is_counted;
 use tree_nodes::Kind;
 
 // 1 where it is so.

@@ -4,11 +4,12 @@ ghost use Rattle.tree_nodes.specs.Trees.{count_of, kids_at};
 ghost use Rattle.tree_nodes.specs.Kept.{number_of};
 ghost use Rattle.flow_rules.specs.BareExcept.{are_statements, has_raise, swallows_all, bare_except};
 
-use crate::kinds::{is_handler, is_raise, is_statement};
-use crate::nodes::message_at;
+use crate::kinds::{is_handler, is_raise};
+use crate::nodes::message_of;
 use crate::rule::Rule;
 use lint_messages::Messages;
 use lint_values::{FileId, Memory, NodeId};
+use rule_nodes::is_statement;
 use std::alloc::Global;
 use tree_nodes::Tree;
 
@@ -69,7 +70,7 @@ pub(crate) fn check_handler(
     ensures { OnOk result (found.new ≡ found.old ++ bare_except file tree.now n.0) }
 {
     if is_handler(tree.kind(n)) && swallows_all(tree, n) {
-        found.push(message_at(alloc, file, tree, n, Rule::BareExcept))?;
+        found.push(message_of(alloc, file, tree, n, Rule::BareExcept))?;
     }
     Ok(())
 }

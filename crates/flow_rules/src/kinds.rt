@@ -1,85 +1,8 @@
 // What a node is, by its kind.
 ghost use Rattle.std.specs.Prelude.{◌≡◌};
-ghost use Rattle.scope_rules.specs.Kinds.{is_def, is_class};
-ghost use Rattle.flow_rules.specs.Kinds.{is_statement, is_counted_clause, is_counted, is_owner, is_jump, is_return, is_raise, is_break, is_continue, is_expression_statement, is_yield, is_handler, is_decorator, is_loop, is_else, is_single_parameter, is_branch, is_finally};
+ghost use Rattle.flow_rules.specs.Kinds.{is_jump, is_return, is_raise, is_break, is_continue, is_yield, is_handler, is_loop, is_else, is_single_parameter, is_branch, is_finally};
 
 use tree_nodes::Kind;
-
-// A function, with `async` before it or not.
-#[tactic(auto, unfolding(scope_rules::specs::Kinds::is_def))]
-pub(crate) fn is_def(kind: Kind) -> bool
-    ensures { result ≡ is_def kind }
-{
-    matches!(kind, Kind::FunctionDef | Kind::AsyncFunctionDef)
-}
-
-#[tactic(auto, unfolding(scope_rules::specs::Kinds::is_class))]
-pub(crate) fn is_class(kind: Kind) -> bool
-    ensures { result ≡ is_class kind }
-{
-    matches!(kind, Kind::ClassDef)
-}
-
-// A function or class.
-pub(crate) fn is_owner(kind: Kind) -> bool
-    ensures { result ≡ is_owner kind }
-{
-    is_def(kind) || is_class(kind)
-}
-
-// A statement, simple or compound.
-#[tactic(auto, unfolding(crate::specs::Kinds::is_statement))]
-pub(crate) fn is_statement(kind: Kind) -> bool
-    ensures { result ≡ is_statement kind }
-{
-    matches!(
-        kind,
-        Kind::ExpressionStatement
-            | Kind::Assign
-            | Kind::AugAssign
-            | Kind::AnnAssign
-            | Kind::Pass
-            | Kind::Break
-            | Kind::Continue
-            | Kind::Return
-            | Kind::Raise
-            | Kind::Global
-            | Kind::Nonlocal
-            | Kind::Delete
-            | Kind::Assert
-            | Kind::Import
-            | Kind::ImportFrom
-            | Kind::If
-            | Kind::While
-            | Kind::For
-            | Kind::AsyncFor
-            | Kind::Try
-            | Kind::With
-            | Kind::AsyncWith
-            | Kind::FunctionDef
-            | Kind::AsyncFunctionDef
-            | Kind::ClassDef
-            | Kind::Match
-    )
-}
-
-// A clause that counts as a statement: `elif` and `except`.
-#[tactic(auto, unfolding(crate::specs::Kinds::is_counted_clause))]
-fn is_counted_clause(kind: Kind) -> bool
-    ensures { result ≡ is_counted_clause kind }
-{
-    matches!(
-        kind,
-        Kind::Elif | Kind::ExceptHandler | Kind::ExceptStarHandler
-    )
-}
-
-// What the number of statements counts.
-pub(crate) fn is_counted(kind: Kind) -> bool
-    ensures { result ≡ is_counted kind }
-{
-    is_statement(kind) || is_counted_clause(kind)
-}
 
 // A statement that control never goes on behind.
 #[tactic(auto, unfolding(crate::specs::Kinds::is_jump))]
@@ -120,13 +43,6 @@ pub(crate) fn is_continue(kind: Kind) -> bool
     matches!(kind, Kind::Continue)
 }
 
-#[tactic(auto, unfolding(crate::specs::Kinds::is_expression_statement))]
-pub(crate) fn is_expression_statement(kind: Kind) -> bool
-    ensures { result ≡ is_expression_statement kind }
-{
-    matches!(kind, Kind::ExpressionStatement)
-}
-
 // `yield` and `yield from`.
 #[tactic(auto, unfolding(crate::specs::Kinds::is_yield))]
 pub(crate) fn is_yield(kind: Kind) -> bool
@@ -141,13 +57,6 @@ pub(crate) fn is_handler(kind: Kind) -> bool
     ensures { result ≡ is_handler kind }
 {
     matches!(kind, Kind::ExceptHandler)
-}
-
-#[tactic(auto, unfolding(crate::specs::Kinds::is_decorator))]
-pub(crate) fn is_decorator(kind: Kind) -> bool
-    ensures { result ≡ is_decorator kind }
-{
-    matches!(kind, Kind::Decorator)
 }
 
 // `for`, with `async` before it or not, and `while`.

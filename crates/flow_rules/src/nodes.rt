@@ -1,73 +1,31 @@
-// Messages of nodes, their names, and the statements of a block.
-ghost use Rattle.std.specs.Prelude.{◌≡◌, ◌<◌, [], ◌∷◌, ◌++◌, All, IfOk, OnOk, map, unwrap_or, option_copied};
-ghost use Rattle.std.specs.Fmt.{decimal};
+// Messages of rules, and the statements of a block.
+ghost use Rattle.std.specs.Prelude.{◌≡◌, ◌<◌, [], ◌∷◌, ◌++◌, All, IfOk, OnOk, map};
 ghost use Rattle.tree_nodes.specs.Trees.{count_of};
 ghost use Rattle.tree_nodes.specs.Kept.{number_of};
-ghost use Rattle.flow_rules.specs.Nodes.{message_at, written, is_public, statements_in, block};
+ghost use Rattle.flow_rules.specs.Nodes.{message_of, statements_in, block};
 
 use crate::codes::code_of;
-use crate::kinds::is_statement;
 use crate::rule::Rule;
 use lint_messages::Message;
-use lint_values::{FileId, Memory, NodeId, Text, Texts};
+use lint_values::{FileId, Memory, NodeId, Texts};
+use rule_nodes::is_statement;
 use std::alloc::Global;
 use tree_nodes::Tree;
 
-/// A message of a node.
+/// A rule's message of a node.
 pub(crate) fn message_with(file: FileId, tree: &Tree, n: NodeId, rule: Rule, args: Texts) -> Message
     requires { n.0 < count_of tree.now }
-    ensures { result ≡ message_at file tree.now n.0 rule args }
+    ensures { result ≡ message_of file tree.now n.0 rule args }
 {
-    Message {
-        file,
-        node: Some(n),
-        pos: tree.pos(n),
-        code: code_of(rule),
-        args,
-    }
+    rule_nodes::message_with(file, tree, n, code_of(rule), args)
 }
 
-/// A message of a node, with no argument.
-pub(crate) fn message_at(alloc: Global, file: FileId, tree: &Tree, n: NodeId, rule: Rule) -> Message
+/// A rule's message of a node, with no argument.
+pub(crate) fn message_of(alloc: Global, file: FileId, tree: &Tree, n: NodeId, rule: Rule) -> Message
     requires { n.0 < count_of tree.now }
-    ensures { result ≡ message_at file tree.now n.0 rule [] }
+    ensures { result ≡ message_of file tree.now n.0 rule [] }
 {
-    message_with(file, tree, n, rule, Texts::new(alloc))
-}
-
-/// A number as it is written.
-pub(crate) fn number_text(alloc: Global, n: u64) -> Result<Text, Memory>
-    ensures { IfOk result (λ text. text ≡ decimal n) }
-{
-    Ok(Text::from_string(format!(in alloc; "{n}")?))
-}
-
-// The name, or nothing.
-fn name_or_none<'n>(name: Option<&'n str>) -> &'n str
-    ensures { result.now ≡ unwrap_or (option_copied name.entry) [] }
-{
-    match name {
-        Some(name) => name,
-        None => "",
-    }
-}
-
-/// A node's name as written, or nothing.
-pub(crate) fn written(tree: &Tree, n: NodeId) -> &str
-    requires { n.0 < count_of tree.now }
-    ensures { result.now ≡ written tree.now n.0 }
-{
-    name_or_none(tree.name(n))
-}
-
-/// Whether a name does not begin with `_`.
-pub(crate) fn is_public(name: &str) -> bool
-    ensures { result ≡ is_public name.now }
-{
-    match name.as_bytes() {
-        [first, ..] => *first != b'_',
-        [] => true,
-    }
+    rule_nodes::message_at(alloc, file, tree, n, code_of(rule))
 }
 
 // Adds a node, where it is a statement.

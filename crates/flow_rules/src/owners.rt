@@ -1,11 +1,11 @@
 // The function or class that each node belongs to.
 ghost use Rattle.std.specs.Prelude.{◌≡◌, ◌<◌, IfOk};
 ghost use Rattle.tree_nodes.specs.Trees.{count_of};
-ghost use Rattle.flow_rules.specs.Outwards.{owner_of};
+ghost use Rattle.rule_nodes.specs.Outwards.{owner_of};
 ghost use Rattle.flow_rules.specs.Tables.{IsListOf, IsListUpTo};
 
-use crate::kinds::is_owner;
 use lint_values::{Memory, NodeId};
+use rule_nodes::is_owner;
 use std::alloc::Global;
 use tree_nodes::Tree;
 

@@ -3,21 +3,21 @@ ghost use Rattle.std.specs.Prelude.{◌≡◌, ◌<◌, ◌++◌, ◌∷◌, [],
 ghost use Rattle.std.specs.Fmt.{decimal};
 ghost use Rattle.std.specs.Map.{update};
 ghost use Rattle.std.specs.Str.{bytes_eq};
-ghost use Rattle.tree_nodes.specs.Trees.{count_of, kids_at};
+ghost use Rattle.tree_nodes.specs.Trees.{count_of};
 ghost use Rattle.tree_nodes.specs.Kept.{number_of};
 ghost use Rattle.scope_rules.specs.Nodes.{Name};
 ghost use Rattle.flow_rules.specs.declared.rule.Rule.TheVariants.{FunctionRedefined};
-ghost use Rattle.flow_rules.specs.Nodes.{message_at};
-ghost use Rattle.flow_rules.specs.Redefined.{is_of, has_decorator, is_plain, function_word, word_of, redefined_by, redefined_behind, function_redefined};
+ghost use Rattle.flow_rules.specs.Nodes.{message_of};
+ghost use Rattle.flow_rules.specs.Redefined.{is_of, is_plain, function_word, word_of, redefined_by, redefined_behind, function_redefined};
 ghost use Rattle.flow_rules.specs.Tables.{AreTablesOf, HasLines, IsOver, line_in};
 
 use crate::definition::Definition;
-use crate::kinds::{is_class, is_decorator, is_def};
-use crate::nodes::{block, is_public, message_with, number_text, written};
+use crate::nodes::{block, message_with};
 use crate::rule::Rule;
 use crate::tables::{Tables, is_in_class};
 use lint_messages::{Message, Messages};
 use lint_values::{FileId, Memory, NodeId, Text, Texts};
+use rule_nodes::{has_decorator, is_class, is_def, is_public, number_text, written};
 use std::alloc::Global;
 use std::collections::BTreeMap;
 use tree_nodes::{Kind, Tree};
@@ -29,28 +29,6 @@ fn is_of(sort: Definition, kind: Kind) -> bool
         Definition::Function => is_def(kind),
         Definition::Class => is_class(kind),
     }
-}
-
-// Whether some of these nodes is a decorator.
-fn any_decorator(tree: &Tree, kids: &[NodeId]) -> bool
-    requires { All (λ k. k.0 < count_of tree.now) kids.now }
-    ensures { result ≡ has_decorator tree.now (map number_of kids.now) }
-{
-    let mut rest = kids;
-    while let [kid, tail @ ..] = rest {
-        if is_decorator(tree.kind(*kid)) {
-            return true;
-        }
-        rest = tail;
-    }
-    false
-}
-
-fn has_decorator(tree: &Tree, n: NodeId) -> bool
-    requires { n.0 < count_of tree.now }
-    ensures { result ≡ has_decorator tree.now (kids_at tree.now n.0) }
-{
-    any_decorator(tree, tree.kids(n))
 }
 
 // Whether a node is a definition of this sort that takes part.
@@ -91,7 +69,7 @@ fn redefined_message(
 ) -> Result<Message, Memory>
     requires made { n.0 < count_of tree.now }
     requires tables { AreTablesOf tree.now tables.now }
-    ensures { IfOk result (λ message. message ≡ message_at file tree.now n.0 FunctionRedefined (word_of sort tree.now n.0 ∷ decimal line ∷ [])) }
+    ensures { IfOk result (λ message. message ≡ message_of file tree.now n.0 FunctionRedefined (word_of sort tree.now n.0 ∷ decimal line ∷ [])) }
 {
     let mut args = Texts::new(alloc);
     args.push(Text::from_str(alloc, word_of(tree, tables, sort, n))?)?;

@@ -4,8 +4,9 @@ ghost use Rattle.tree_nodes.specs.Trees.{count_of};
 ghost use Rattle.flow_rules.specs.Outwards.{is_repeated, in_loop};
 ghost use Rattle.flow_rules.specs.Tables.{IsListOf, IsListUpTo};
 
-use crate::kinds::{is_else, is_loop, is_owner};
+use crate::kinds::{is_else, is_loop};
 use lint_values::{Memory, NodeId};
+use rule_nodes::is_owner;
 use std::alloc::Global;
 use tree_nodes::Tree;
 

@@ -5,7 +5,7 @@ ghost use Rattle.flow_rules.specs.Returns.{return_outside};
 ghost use Rattle.flow_rules.specs.Tables.{AreTablesOf};
 
 use crate::kinds::is_return;
-use crate::nodes::message_at;
+use crate::nodes::message_of;
 use crate::rule::Rule;
 use crate::tables::{Tables, is_in_function};
 use lint_messages::Messages;
@@ -27,7 +27,7 @@ pub(crate) fn check_return(
     ensures { OnOk result (found.new ≡ found.old ++ return_outside file tree.now n.0) }
 {
     if is_return(tree.kind(n)) && !is_in_function(tree, tables, n) {
-        found.push(message_at(alloc, file, tree, n, Rule::ReturnOutsideFunction))?;
+        found.push(message_of(alloc, file, tree, n, Rule::ReturnOutsideFunction))?;
     }
     Ok(())
 }

@@ -3,18 +3,19 @@ ghost use Rattle.std.specs.Prelude.{◌≡◌, ◌<◌, ◌≤◌, ◌++◌, ◌
 ghost use Rattle.std.specs.Fmt.{decimal};
 ghost use Rattle.tree_nodes.specs.Trees.{count_of};
 ghost use Rattle.tree_nodes.specs.Kept.{number_of};
-ghost use Rattle.flow_rules.specs.Nodes.{message_at};
+ghost use Rattle.flow_rules.specs.Nodes.{message_of};
 ghost use Rattle.flow_rules.specs.Sizes.{is_counted_parameter, parameters_among, parameter_count, too_many, too_many_returns, too_many_branches, too_many_arguments, too_many_statements};
 ghost use Rattle.flow_rules.specs.Tables.{AreTablesOf};
 
-use crate::kinds::{is_def, is_single_parameter};
-use crate::nodes::{is_public, message_with, number_text, written};
+use crate::kinds::is_single_parameter;
+use crate::nodes::message_with;
 use crate::rule::Rule;
 use crate::size::Size;
 use crate::tables::{Tables, total};
 use lint_messages::{Message, Messages};
 use lint_values::{FileId, Memory, NodeId, Texts};
 use options::Options;
+use rule_nodes::{is_def, is_public, number_text, written};
 use std::alloc::Global;
 use tree_nodes::Tree;
 
@@ -67,7 +68,7 @@ fn size_message(
     n: NodeId,
 ) -> Result<Message, Memory>
     requires { n.0 < count_of tree.now }
-    ensures { IfOk result (λ message. message ≡ message_at file tree.now n.0 rule (decimal count ∷ decimal most ∷ [])) }
+    ensures { IfOk result (λ message. message ≡ message_of file tree.now n.0 rule (decimal count ∷ decimal most ∷ [])) }
 {
     let mut args = Texts::new(alloc);
     args.push(number_text(alloc, count)?)?;

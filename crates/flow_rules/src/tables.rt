@@ -1,16 +1,17 @@
 // What is known of each node before the rules are asked.
 ghost use Rattle.std.specs.Prelude.{◌≡◌, ◌<◌, IfOk};
 ghost use Rattle.tree_nodes.specs.Trees.{count_of};
-ghost use Rattle.flow_rules.specs.Outwards.{owner_of, in_loop, is_function_there, is_class_there};
+ghost use Rattle.rule_nodes.specs.Outwards.{owner_of};
+ghost use Rattle.flow_rules.specs.Outwards.{in_loop, is_function_there, is_class_there};
 ghost use Rattle.flow_rules.specs.Sizes.{total};
 ghost use Rattle.flow_rules.specs.Tables.{AreTablesOf, AreTotals};
 
-use crate::kinds::{is_class, is_def};
 use crate::owners::{owner_in, owners_of};
 use crate::repeated::{in_loop_in, loops_of};
 use crate::size::Size;
 use crate::totals::totals_of;
 use lint_values::{Memory, NodeId};
+use rule_nodes::{is_class, is_def};
 use std::alloc::Global;
 use tree_nodes::Tree;
 
@@ -53,7 +54,7 @@ fn owner_at(tree: &Tree, tables: &Tables, n: NodeId) -> Option<u32>
 }
 
 /// Whether a node belongs to a function.
-#[tactic(auto, using(crate::proofs::Above::owner_made))]
+#[tactic(auto, using(rule_nodes::proofs::Above::owner_made))]
 pub(crate) fn is_in_function(tree: &Tree, tables: &Tables, n: NodeId) -> bool
     requires made { n.0 < count_of tree.now }
     requires tables { AreTablesOf tree.now tables.now }
@@ -66,7 +67,7 @@ pub(crate) fn is_in_function(tree: &Tree, tables: &Tables, n: NodeId) -> bool
 }
 
 /// Whether a node belongs to a class.
-#[tactic(auto, using(crate::proofs::Above::owner_made))]
+#[tactic(auto, using(rule_nodes::proofs::Above::owner_made))]
 pub(crate) fn is_in_class(tree: &Tree, tables: &Tables, n: NodeId) -> bool
     requires made { n.0 < count_of tree.now }
     requires tables { AreTablesOf tree.now tables.now }

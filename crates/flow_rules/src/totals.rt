@@ -1,7 +1,7 @@
 // The sizes of each function.
 ghost use Rattle.std.specs.Prelude.{◌≡◌, ℕ, ◌<◌, ◌+◌, ◌^◌, length, slice_index_or, Some, IfOk};
 ghost use Rattle.tree_nodes.specs.Trees.{count_of};
-ghost use Rattle.flow_rules.specs.Outwards.{owner_of};
+ghost use Rattle.rule_nodes.specs.Outwards.{owner_of};
 ghost use Rattle.flow_rules.specs.Tables.{AreTotalled, AreTotals, IsListOf, with_part};
 
 use crate::counts::part_of;

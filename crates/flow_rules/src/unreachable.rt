@@ -4,11 +4,12 @@ ghost use Rattle.tree_nodes.specs.Trees.{count_of, kids_at};
 ghost use Rattle.tree_nodes.specs.Kept.{number_of};
 ghost use Rattle.flow_rules.specs.Unreachable.{is_sole_yield, is_yield_statement, is_empty_generator, is_cut_off, unreachable_at, unreachable_behind, unreachable_among, unreachable};
 
-use crate::kinds::{is_expression_statement, is_jump, is_return, is_yield};
-use crate::nodes::{block, message_at};
+use crate::kinds::{is_jump, is_return, is_yield};
+use crate::nodes::{block, message_of};
 use crate::rule::Rule;
 use lint_messages::Messages;
 use lint_values::{FileId, Memory, NodeId};
+use rule_nodes::is_expression_statement;
 use std::alloc::Global;
 use tree_nodes::Tree;
 
@@ -68,7 +69,7 @@ fn check_behind(
     ensures { OnOk result (found.new ≡ found.old ++ unreachable_at file tree.now jump.0 n.0) }
 {
     if is_cut_off(tree, jump, n) {
-        found.push(message_at(alloc, file, tree, n, Rule::Unreachable))?;
+        found.push(message_of(alloc, file, tree, n, Rule::Unreachable))?;
     }
     Ok(())
 }

@@ -2,11 +2,13 @@
 ghost use Rattle.std.specs.Prelude.{◌≡◌, ◌<◌, ◌++◌, All, IfOk, IfSome, OnOk, map, option_map, if◌then◌else◌};
 ghost use Rattle.tree_nodes.specs.Trees.{count_of, node_at, kids_at};
 ghost use Rattle.tree_nodes.specs.Kept.{number_of};
-ghost use Rattle.pragma_scope.specs.Blocks.{begin_by, begin_of, block_at, block_from, blocks_of, first_in_block, kind_at, last_line_of, module_block, statements_begin};
+ghost use Rattle.scope_rules.specs.Nodes.{kind_of};
+ghost use Rattle.pragma_scope.specs.Blocks.{begin_by, begin_of, block_at, block_from, blocks_of, first_in_block, last_line_of, module_block, statements_begin};
 ghost use Rattle.pragma_scope.specs.Kinds as spec;
 
-use crate::kind::{is_decorator, is_in_block, is_statement};
+use crate::kind::{is_in_block, is_of_block};
 use lint_values::{Memory, NodeId, Pos};
+use rule_nodes::is_decorator;
 use std::alloc::Global;
 use tree_nodes::Tree;
 
@@ -67,7 +69,7 @@ fn statements_begin(tree: &Tree, kids: &[NodeId]) -> Option<Pos>
 {
     let mut rest = kids;
     while let [kid, tail @ ..] = rest {
-        if is_statement(tree.kind(*kid)) {
+        if is_of_block(tree.kind(*kid)) {
             return Some(begin_of(tree, *kid));
         }
         rest = tail;
@@ -77,7 +79,7 @@ fn statements_begin(tree: &Tree, kids: &[NodeId]) -> Option<Pos>
 
 fn last_line_behind(tree: &Tree, last: u32, kid: NodeId) -> u32
     requires { kid.0 < count_of tree.now }
-    ensures { result ≡ (if spec.is_in_block (kind_at tree.now kid.0) then (node_at tree.now kid.0).end_line else last) }
+    ensures { result ≡ (if spec.is_in_block (kind_of tree.now kid.0) then (node_at tree.now kid.0).end_line else last) }
 {
     if is_in_block(tree.kind(kid)) {
         tree.end_line(kid)

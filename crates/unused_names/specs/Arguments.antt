@@ -1,6 +1,6 @@
 -- unused-argument: the parameters of functions that are never read.
 use Rattle.std.specs.Prelude.{ℕ, Bool, false, not, ◌&&◌, ◌||◌, List, [], ◌∷◌, codes}
-use Rattle.std.specs.List.{list_any, list_all, find, flat_map}
+use Rattle.std.specs.List.{list_all, find, flat_map}
 use Rattle.std.specs.Str.{bytes_eq}
 use Rattle.lint_values.specs.declared.place.FileId.{FileId}
 use Rattle.lint_messages.specs.declared.code.Code.TheVariants.{UnusedArgument}
@@ -12,22 +12,17 @@ use Rattle.scope_rules.specs.Places.{around}
 use Rattle.scope_rules.specs.Marks.{Mark}
 use Rattle.scope_rules.specs.Reading.{is_special}
 use Rattle.scope_rules.specs.Answers.{binders_of}
-use Rattle.unused_names.specs.Kinds.{is_decorator, is_base, is_empty_statement, is_expression_statement, is_ellipsis}
-use Rattle.unused_names.specs.Nodes.{written_at, message_at, due, asked_above}
+use Rattle.rule_nodes.specs.Kinds.{is_expression_statement, is_ellipsis}
+use Rattle.rule_nodes.specs.Nodes.{written, message_at, due}
+use Rattle.rule_nodes.specs.Parts.{has_base, has_decorator}
+use Rattle.unused_names.specs.Kinds.{is_empty_statement}
+use Rattle.unused_names.specs.Nodes.{asked_above}
 
 -- ---- the function
 
--- one of these is a base of a class
-abbrev pub has_base_among : Tree → List ℕ → Bool
-has_base_among t kids = list_any (λ k. is_base (kind_of t k)) kids
-
 -- a class with bases
 unfoldable pub has_bases : Tree → ℕ → Bool
-has_bases t n = is_class (kind_of t n) && has_base_among t (kids_at t n)
-
--- one of these is a decorator
-abbrev pub is_decorated_among : Tree → List ℕ → Bool
-is_decorated_among t kids = list_any (λ k. is_decorator (kind_of t k)) kids
+has_bases t n = is_class (kind_of t n) && has_base t (kids_at t n)
 
 -- a function in the body of a class
 abbrev pub is_method : Tree → ℕ → Bool
@@ -35,7 +30,7 @@ is_method t n = is_class (kind_of t (around t n))
 
 -- a method `__x__` other than `__init__`
 unfoldable pub is_special_method : Tree → ℕ → Bool
-is_special_method t n = is_method t n && (is_special (written_at t n) && not (bytes_eq (written_at t n) (codes "__init__")))
+is_special_method t n = is_method t n && (is_special (written t n) && not (bytes_eq (written t n) (codes "__init__")))
 
 -- there is one node, and it is `...`
 unfoldable pub is_sole_ellipsis : Tree → List ℕ → Bool
@@ -56,7 +51,7 @@ are_stubs t kids = list_all (does_nothing t) kids
 
 -- a function whose parameters are not reported: decorated, without a body, in a class with bases, or a special method
 unfoldable pub is_silent : Tree → ℕ → Bool
-is_silent t n = is_decorated_among t (kids_at t n) || (are_stubs t (kids_at t n) || (has_bases t (around t n) || is_special_method t n))
+is_silent t n = has_decorator t (kids_at t n) || (are_stubs t (kids_at t n) || (has_bases t (around t n) || is_special_method t n))
 
 -- ---- the parameter
 

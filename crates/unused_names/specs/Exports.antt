@@ -6,12 +6,13 @@ use Rattle.tree_nodes.specs.Trees.{Tree, kids_at, parent_at}
 use Rattle.scope_rules.specs.Nodes.{Name, kind_of, nodes_of, is_number}
 use Rattle.scope_rules.specs.Places.{around}
 use Rattle.unused_names.specs.Kinds.{is_assignment, is_name_target, is_annotation, is_string, is_display}
-use Rattle.unused_names.specs.Nodes.{written_at, asked_above, is_under}
+use Rattle.rule_nodes.specs.Nodes.{written}
+use Rattle.unused_names.specs.Nodes.{asked_above, is_under}
 use Rattle.unused_names.specs.Literals.{text_of}
 
 -- the target `__all__`
 unfoldable pub is_all_target : Tree → ℕ → Bool
-is_all_target t k = is_name_target (kind_of t k) && bytes_eq (written_at t k) (codes "__all__")
+is_all_target t k = is_name_target (kind_of t k) && bytes_eq (written t k) (codes "__all__")
 
 -- one of these is
 abbrev pub has_all_target : Tree → List ℕ → Bool
@@ -43,7 +44,7 @@ is_export t n = is_string (kind_of t n) && asked_above (is_export_list t) (paren
 
 -- the name that it exports
 unfoldable pub exported_by : Tree → ℕ → List Name
-exported_by t n = if is_export t n then text_of (written_at t n) ∷ [] else []
+exported_by t n = if is_export t n then text_of (written t n) ∷ [] else []
 
 abbrev pub exported_among : Tree → List ℕ → List Name
 exported_among t ns = flat_map (exported_by t) ns

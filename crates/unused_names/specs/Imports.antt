@@ -11,8 +11,9 @@ use Rattle.scope_rules.specs.Nodes.{kind_of, first}
 use Rattle.scope_rules.specs.Binding.{is_alias}
 use Rattle.scope_rules.specs.Marks.{Mark}
 use Rattle.scope_rules.specs.Answers.{binders_of}
-use Rattle.unused_names.specs.Kinds.{is_import_from}
-use Rattle.unused_names.specs.Nodes.{written_at, message_at, due, asked_above}
+use Rattle.rule_nodes.specs.Kinds.{is_import_from}
+use Rattle.rule_nodes.specs.Nodes.{written, message_at, due}
+use Rattle.unused_names.specs.Nodes.{asked_above}
 use Rattle.unused_names.specs.Reads.{has_name}
 use Rattle.unused_names.specs.Exports.{exported}
 use Rattle.unused_names.specs.AnnotationWords.{quoted}
@@ -27,12 +28,12 @@ is_unmentioned t m = not (has_name (exported t) m.name || has_name (quoted t) m.
 
 -- a statement `from __future__ import ..`
 unfoldable pub is_future : Tree → ℕ → Bool
-is_future t q = is_import_from (kind_of t q) && bytes_eq (written_at t q) (codes "__future__")
+is_future t q = is_import_from (kind_of t q) && bytes_eq (written t q) (codes "__future__")
 
 -- the name behind `as` is the imported name
 unfoldable pub is_same_name : Tree → ℕ → Option ℕ → Bool
 is_same_name t n None = false
-is_same_name t n (Some k) = bytes_eq (written_at t k) (written_at t n)
+is_same_name t n (Some k) = bytes_eq (written t k) (written t n)
 
 -- an imported name that is reported: not from `__future__`, and not renamed to itself
 unfoldable pub is_reported_alias : Tree → ℕ → Bool
@@ -40,13 +41,13 @@ is_reported_alias t n = is_alias (kind_of t n) && (not (asked_above (is_future t
 
 -- `Unused y imported from x`, `Unused y imported from x as z`
 unfoldable pub from_text : Tree → ℕ → ℕ → Option ℕ → List ℕ
-from_text t n q None = codes "Unused " ++ (written_at t n ++ (codes " imported from " ++ written_at t q))
-from_text t n q (Some k) = codes "Unused " ++ (written_at t n ++ (codes " imported from " ++ (written_at t q ++ (codes " as " ++ written_at t k))))
+from_text t n q None = codes "Unused " ++ (written t n ++ (codes " imported from " ++ written t q))
+from_text t n q (Some k) = codes "Unused " ++ (written t n ++ (codes " imported from " ++ (written t q ++ (codes " as " ++ written t k))))
 
 -- `Unused import os`, `Unused numpy imported as np`
 unfoldable pub import_text : Tree → ℕ → Option ℕ → List ℕ
-import_text t n None = codes "Unused import " ++ written_at t n
-import_text t n (Some k) = codes "Unused " ++ (written_at t n ++ (codes " imported as " ++ written_at t k))
+import_text t n None = codes "Unused import " ++ written t n
+import_text t n (Some k) = codes "Unused " ++ (written t n ++ (codes " imported as " ++ written t k))
 
 -- the text of an imported name of the statement q: module names whole and with dots in front, as the statement writes
 -- them

@@ -1,28 +1,8 @@
 -- What the rules ask of the nodes of a tree, by their numbers.
-use Rattle.std.specs.Prelude.{ℕ, zero, suc, Bool, false, ◌||◌, if◌then◌else◌, List, [], ◌∷◌, Option, None, Some}
+use Rattle.std.specs.Prelude.{ℕ, zero, suc, Bool, false, ◌||◌, Option, None, Some}
 use Rattle.std.specs.Str.{bytes_eq}
-use Rattle.lint_values.specs.declared.place.FileId.{FileId}
-use Rattle.lint_messages.specs.declared.code.Code.{Code}
-use Rattle.lint_messages.specs.declared.message.Message.{Message}
-use Rattle.tree_nodes.specs.Trees.{Tree, node_at, parent_at}
-use Rattle.scope_rules.specs.Nodes.{Name, name_of}
-
--- the name that there is, or nothing
-abbrev pub name_or_none : Option Name → Name
-name_or_none None = []
-name_or_none (Some name) = name
-
--- a node's name as it is written; nothing where it has none
-abbrev pub written_at : Tree → ℕ → Name
-written_at t n = name_or_none (name_of t n)
-
--- a message of a node
-abbrev pub message_at : FileId → Tree → ℕ → Code → List (List ℕ) → Message
-message_at file t n code args = record { file = file; node = Some (record { 0 = n }); pos = (node_at t n).pos; code = code; args = args }
-
--- a message, where it is due
-abbrev pub due : Bool → Message → List Message
-due is_due message = if is_due then message ∷ [] else []
+use Rattle.tree_nodes.specs.Trees.{Tree, parent_at}
+use Rattle.scope_rules.specs.Nodes.{Name}
 
 -- there is a name, and it is that one
 abbrev pub is_name : Option Name → Name → Bool

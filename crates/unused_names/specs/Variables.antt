@@ -13,7 +13,8 @@ use Rattle.scope_rules.specs.Marks.{Mark}
 use Rattle.scope_rules.specs.Reading.{is_read_name}
 use Rattle.scope_rules.specs.Answers.{binders_of}
 use Rattle.unused_names.specs.Kinds.{is_call}
-use Rattle.unused_names.specs.Nodes.{message_at, due, is_name, asked_above}
+use Rattle.rule_nodes.specs.Nodes.{message_at, due}
+use Rattle.unused_names.specs.Nodes.{is_name, asked_above}
 
 -- a binder that another rule speaks of: a parameter or an imported name
 unfoldable pub is_other_binder : Tree → ℕ → Bool

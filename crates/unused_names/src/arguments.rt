@@ -5,17 +5,18 @@ ghost use Rattle.tree_nodes.specs.Kept.{number_of};
 ghost use Rattle.scope_bind.specs.Lists.{IsListOf};
 ghost use Rattle.scope_bind.specs.Scoped.{AreScopesOf};
 ghost use Rattle.lint_messages.specs.declared.code.Code.TheVariants.{UnusedArgument};
-ghost use Rattle.unused_names.specs.Nodes.{asked_above, due, message_at};
+ghost use Rattle.rule_nodes.specs.Nodes.{due, message_at};
+ghost use Rattle.unused_names.specs.Nodes.{asked_above};
 ghost use Rattle.unused_names.specs.Arguments.{is_silent, is_first_parameter, reports, is_reported_parameter, arguments_among, unused_arguments};
 ghost use Rattle.unused_names.specs.Knowledge.{IsKnown};
 
 use crate::answers::binders;
 use crate::bodies::is_method;
-use crate::kinds::{is_def, is_parameter};
+use crate::kinds::is_parameter;
 use crate::known::Known;
-use crate::nodes::message_at;
 use lint_messages::{Code, Messages};
 use lint_values::{FileId, Memory, NodeId, Text};
+use rule_nodes::{is_def, message_on};
 use scope_bind::Scopes;
 use std::alloc::Global;
 use tree_nodes::Tree;
@@ -115,7 +116,7 @@ fn check_parameter(
 {
     if is_reported_parameter(tree, scopes, known, n) {
         let argument = Text::from_str(alloc, name)?;
-        found.push(message_at(alloc, file, tree, n, Code::UnusedArgument, argument)?)?;
+        found.push(message_on(alloc, file, tree, n, Code::UnusedArgument, argument)?)?;
     }
     Ok(())
 }

@@ -8,40 +8,18 @@ ghost use Rattle.scope_rules.specs.Mangling.{begins_private, ends_special};
 ghost use Rattle.scope_rules.specs.Reading.{is_special};
 ghost use Rattle.scope_bind.specs.Lists.{IsListOf};
 ghost use Rattle.scope_bind.specs.Scoped.{AreScopesOf};
-ghost use Rattle.unused_names.specs.Nodes.{written_at};
-ghost use Rattle.unused_names.specs.Arguments.{has_base_among, has_bases, is_decorated_among, is_method, is_special_method, is_sole_ellipsis, is_stub, does_nothing, are_stubs, is_silent};
+ghost use Rattle.rule_nodes.specs.Nodes.{written};
+ghost use Rattle.unused_names.specs.Arguments.{has_bases, is_method, is_special_method, is_sole_ellipsis, is_stub, does_nothing, are_stubs, is_silent};
 
 use crate::answers::around;
-use crate::kinds::{
-    is_base, is_class, is_decorator, is_ellipsis, is_empty_statement, is_expression_statement,
-    is_in_body,
-};
-use crate::nodes::written_at;
+use crate::kinds::is_empty_statement;
 use lint_values::{Memory, NodeId};
+use rule_nodes::{
+    has_base, has_decorator, is_class, is_ellipsis, is_expression_statement, is_in_body, written,
+};
 use scope_bind::Scopes;
 use std::alloc::Global;
 use tree_nodes::Tree;
-
-fn any_base(tree: &Tree, kids: &[NodeId]) -> bool
-    requires { All (λ k. k.0 < count_of tree.now) kids.now }
-    ensures { result ≡ has_base_among tree.now (map number_of kids.now) }
-{
-    let mut rest = kids;
-    while let [kid, tail @ ..] = rest {
-        if is_base(tree.kind(*kid)) {
-            return true;
-        }
-        rest = tail;
-    }
-    false
-}
-
-fn has_base(tree: &Tree, n: NodeId) -> bool
-    requires { n.0 < count_of tree.now }
-    ensures { result ≡ has_base_among tree.now (kids_at tree.now n.0) }
-{
-    any_base(tree, tree.kids(n))
-}
 
 /// A class with bases.
 #[tactic(auto, unfolding(crate::specs::Arguments::has_bases))]
@@ -83,27 +61,6 @@ fn stands_in_based(tree: &Tree, scopes: &Scopes, based: &[bool], n: NodeId) -> b
     is_based(tree, based, around(tree, scopes, n))
 }
 
-fn any_decorator(tree: &Tree, kids: &[NodeId]) -> bool
-    requires { All (λ k. k.0 < count_of tree.now) kids.now }
-    ensures { result ≡ is_decorated_among tree.now (map number_of kids.now) }
-{
-    let mut rest = kids;
-    while let [kid, tail @ ..] = rest {
-        if is_decorator(tree.kind(*kid)) {
-            return true;
-        }
-        rest = tail;
-    }
-    false
-}
-
-fn is_decorated(tree: &Tree, n: NodeId) -> bool
-    requires { n.0 < count_of tree.now }
-    ensures { result ≡ is_decorated_among tree.now (kids_at tree.now n.0) }
-{
-    any_decorator(tree, tree.kids(n))
-}
-
 /// A function in the body of a class.
 pub(crate) fn is_method(tree: &Tree, scopes: &Scopes, n: NodeId) -> bool
     requires made { n.0 < count_of tree.now }
@@ -141,16 +98,16 @@ fn is_special(name: &[u8]) -> bool
 
 fn is_named_special(tree: &Tree, n: NodeId) -> bool
     requires { n.0 < count_of tree.now }
-    ensures { result ≡ is_special (written_at tree.now n.0) }
+    ensures { result ≡ is_special (written tree.now n.0) }
 {
-    is_special(written_at(tree, n).as_bytes())
+    is_special(written(tree, n).as_bytes())
 }
 
 fn is_init(tree: &Tree, n: NodeId) -> bool
     requires { n.0 < count_of tree.now }
-    ensures { result ≡ bytes_eq (written_at tree.now n.0) (codes "__init__") }
+    ensures { result ≡ bytes_eq (written tree.now n.0) (codes "__init__") }
 {
-    written_at(tree, n) == "__init__"
+    written(tree, n) == "__init__"
 }
 
 /// A method `__x__` other than `__init__`.
@@ -228,7 +185,7 @@ fn is_silent(tree: &Tree, scopes: &Scopes, based: &[bool], n: NodeId) -> bool
     requires based { IsListOf (has_bases tree.now) tree.now based.now }
     ensures { result ≡ is_silent tree.now n.0 }
 {
-    is_decorated(tree, n)
+    has_decorator(tree, n)
         || are_stubs(tree, n)
         || stands_in_based(tree, scopes, based, n)
         || is_special_method(tree, scopes, n)

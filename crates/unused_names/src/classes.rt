@@ -14,9 +14,10 @@ ghost use Rattle.unused_names.specs.Reads.{is_augmented, is_local_answer, is_rea
 ghost use Rattle.unused_names.specs.Sets.{HasNames};
 
 use crate::answers::{around, resolved, spelled};
-use crate::kinds::{is_augmented_assignment, is_class, is_name_target};
+use crate::kinds::{is_augmented_assignment, is_name_target};
 use crate::name_set::{NameSet, add_name, no_names};
 use lint_values::{Memory, NodeId};
+use rule_nodes::is_class;
 use scope_bind::{Scopes, Where};
 use std::alloc::Global;
 use tree_nodes::{Kind, Tree};

@@ -7,7 +7,8 @@ ghost use Rattle.scope_rules.specs.Nodes.{Name};
 ghost use Rattle.scope_rules.specs.Places.{around};
 ghost use Rattle.scope_bind.specs.Lists.{IsListOf};
 ghost use Rattle.scope_bind.specs.Scoped.{AreScopesOf};
-ghost use Rattle.unused_names.specs.Nodes.{written_at, asked_above, is_under};
+ghost use Rattle.rule_nodes.specs.Nodes.{written};
+ghost use Rattle.unused_names.specs.Nodes.{asked_above, is_under};
 ghost use Rattle.unused_names.specs.Exports.{is_all_target, has_all_target, is_last, is_all_assignment, is_assigned_by, is_all_value, is_export_list, is_export, exported_by, exported};
 ghost use Rattle.unused_names.specs.Sets.{HasNames};
 
@@ -15,18 +16,18 @@ use crate::answers::around;
 use crate::kinds::{is_annotation, is_assignment, is_display, is_name_target, is_string};
 use crate::literals::text_of;
 use crate::name_set::{NameSet, add_name, no_names};
-use crate::nodes::written_at;
 use crate::under::under_of;
 use lint_values::{Memory, NodeId};
+use rule_nodes::written;
 use scope_bind::Scopes;
 use std::alloc::Global;
 use tree_nodes::Tree;
 
 fn is_named_all(tree: &Tree, k: NodeId) -> bool
     requires { k.0 < count_of tree.now }
-    ensures { result ≡ bytes_eq (written_at tree.now k.0) (codes "__all__") }
+    ensures { result ≡ bytes_eq (written tree.now k.0) (codes "__all__") }
 {
-    written_at(tree, k) == "__all__"
+    written(tree, k) == "__all__"
 }
 
 /// The target `__all__`.
@@ -201,7 +202,7 @@ fn add_export(
     ensures { (ns : List Name) → HasNames names.old ns → OnOk result (HasNames names.new (ns ++ exported_by tree.now n.0)) }
 {
     if is_export(tree, under, n) {
-        add_name(alloc, names, text_of(written_at(tree, n).as_bytes()))
+        add_name(alloc, names, text_of(written(tree, n).as_bytes()))
     } else {
         Ok(())
     }

@@ -13,9 +13,10 @@ ghost use Rattle.unused_names.specs.Reads.{plain_name, by_first_binder};
 
 use crate::answers::{around, binders, spelled};
 use crate::exempt::is_exempt;
-use crate::kinds::{is_alias, is_annotated, is_as_name, is_binder, is_handler, is_walrus};
+use crate::kinds::is_annotated;
 use crate::locals::beyond_comprehensions;
 use lint_values::NodeId;
+use rule_nodes::{is_alias, is_as_name, is_binder, is_handler, is_walrus};
 use scope_bind::Scopes;
 use tree_nodes::Tree;
 

@@ -5,7 +5,8 @@ ghost use Rattle.tree_nodes.specs.Trees.{count_of, kids_at, parent_at};
 ghost use Rattle.tree_nodes.specs.Kept.{number_of};
 ghost use Rattle.scope_rules.specs.Nodes.{first};
 ghost use Rattle.scope_bind.specs.Scoped.{AreScopesOf};
-ghost use Rattle.unused_names.specs.Nodes.{written_at, asked_above, due};
+ghost use Rattle.rule_nodes.specs.Nodes.{written, due};
+ghost use Rattle.unused_names.specs.Nodes.{asked_above};
 ghost use Rattle.unused_names.specs.Imports.{is_in_reach, is_unmentioned, is_future, is_same_name, is_reported_alias, from_text, import_text, text_in, statement_of, import_message, imports_among, unused_imports};
 ghost use Rattle.unused_names.specs.Reads.{has_name};
 ghost use Rattle.unused_names.specs.Exports.{exported};
@@ -13,12 +14,11 @@ ghost use Rattle.unused_names.specs.AnnotationWords.{quoted};
 ghost use Rattle.unused_names.specs.Knowledge.{IsKnown};
 
 use crate::answers::binders;
-use crate::kinds::{is_alias, is_def, is_import_from};
 use crate::known::Known;
 use crate::name_set::has_name;
-use crate::nodes::{message_at, written_at};
 use lint_messages::{Code, Message, Messages};
 use lint_values::{FileId, Memory, NodeId, Text};
+use rule_nodes::{is_alias, is_def, is_import_from, message_on, written};
 use scope_bind::Scopes;
 use std::alloc::Global;
 use tree_nodes::Tree;
@@ -63,9 +63,9 @@ fn is_unmentioned(tree: &Tree, known: &Known, scope: u32, name: &str) -> bool
 
 fn is_named_future(tree: &Tree, q: NodeId) -> bool
     requires { q.0 < count_of tree.now }
-    ensures { result ≡ bytes_eq (written_at tree.now q.0) (codes "__future__") }
+    ensures { result ≡ bytes_eq (written tree.now q.0) (codes "__future__") }
 {
-    written_at(tree, q) == "__future__"
+    written(tree, q) == "__future__"
 }
 
 #[tactic(auto, unfolding(crate::specs::Imports::is_future))]
@@ -93,7 +93,7 @@ fn is_same_as(tree: &Tree, n: NodeId, kids: &[NodeId]) -> bool
     ensures { result ≡ is_same_name tree.now n.0 (first (map number_of kids.now)) }
 {
     match kids {
-        [k, ..] => written_at(tree, *k) == written_at(tree, n),
+        [k, ..] => written(tree, *k) == written(tree, n),
         [] => false,
     }
 }
@@ -142,10 +142,10 @@ fn from_text(
     requires kids { All (λ k. k.0 < count_of tree.now) kids.now }
     ensures { IfOk result (λ text. text ≡ from_text tree.now n.0 q.0 (first (map number_of kids.now))) }
 {
-    let name = written_at(tree, n);
-    let module_name = written_at(tree, q);
+    let name = written(tree, n);
+    let module_name = written(tree, q);
     match kids {
-        [k, ..] => renamed_from(alloc, name, module_name, written_at(tree, *k)),
+        [k, ..] => renamed_from(alloc, name, module_name, written(tree, *k)),
         [] => plain_from(alloc, name, module_name),
     }
 }
@@ -170,9 +170,9 @@ fn import_text(alloc: Global, tree: &Tree, n: NodeId, kids: &[NodeId]) -> Result
     requires kids { All (λ k. k.0 < count_of tree.now) kids.now }
     ensures { IfOk result (λ text. text ≡ import_text tree.now n.0 (first (map number_of kids.now))) }
 {
-    let name = written_at(tree, n);
+    let name = written(tree, n);
     match kids {
-        [k, ..] => renamed_import(alloc, name, written_at(tree, *k)),
+        [k, ..] => renamed_import(alloc, name, written(tree, *k)),
         [] => plain_import(alloc, name),
     }
 }
@@ -209,7 +209,7 @@ fn import_message(alloc: Global, file: FileId, tree: &Tree, n: NodeId) -> Result
 {
     let statement = statement_of(tree, n);
     let text = text_in(alloc, tree, n, statement)?;
-    message_at(alloc, file, tree, statement, Code::UnusedImport, text)
+    message_on(alloc, file, tree, statement, Code::UnusedImport, text)
 }
 
 /// Adds the message of a binder, where it is an imported name that is reported.

@@ -14,7 +14,6 @@ mod known;
 mod literals;
 mod locals;
 mod name_set;
-mod nodes;
 mod quoted;
 mod reads;
 mod under;

@@ -11,8 +11,9 @@ ghost use Rattle.unused_names.specs.Variables.{is_locals, calls_locals, locals_o
 ghost use Rattle.unused_names.specs.Sets.{HasNumbers};
 
 use crate::answers::around;
-use crate::kinds::{is_call, is_comprehension, is_read_name};
+use crate::kinds::is_call;
 use lint_values::{Memory, NodeId};
+use rule_nodes::{is_comprehension, is_read_name};
 use scope_bind::Scopes;
 use std::alloc::Global;
 use std::collections::BTreeSet;

@@ -10,9 +10,9 @@ ghost use Rattle.unused_names.specs.Sets.{HasNames};
 use crate::kinds::{is_annotation, is_string};
 use crate::literals::{add_words, text_of};
 use crate::name_set::{NameSet, no_names};
-use crate::nodes::written_at;
 use crate::under::under_of;
 use lint_values::{Memory, NodeId};
+use rule_nodes::written;
 use std::alloc::Global;
 use tree_nodes::Tree;
 
@@ -70,7 +70,7 @@ fn add_quoted(
     ensures { (ns : List Name) → HasNames names.old ns → OnOk result (HasNames names.new (ns ++ quoted_by tree.now n.0)) }
 {
     if is_quoted(tree, under, n) {
-        add_words(alloc, names, text_of(written_at(tree, n).as_bytes()))
+        add_words(alloc, names, text_of(written(tree, n).as_bytes()))
     } else {
         Ok(())
     }

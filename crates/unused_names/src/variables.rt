@@ -9,12 +9,12 @@ ghost use Rattle.unused_names.specs.Variables.{is_other_binder, is_listed, is_va
 ghost use Rattle.unused_names.specs.Knowledge.{IsKnown};
 
 use crate::answers::binders;
-use crate::kinds::{is_alias, is_def, is_parameter};
+use crate::kinds::is_parameter;
 use crate::known::Known;
 use crate::locals::is_listed;
-use crate::nodes::message_at;
 use lint_messages::{Code, Messages};
 use lint_values::{FileId, Memory, NodeId, Text};
+use rule_nodes::{is_alias, is_def, message_on};
 use scope_bind::Scopes;
 use std::alloc::Global;
 use tree_nodes::Tree;
@@ -89,7 +89,7 @@ pub(crate) fn check_variable(
 {
     if is_variable(tree, scopes, known, scope, name) {
         let argument = Text::from_str(alloc, name)?;
-        found.push(message_at(alloc, file, tree, n, Code::UnusedVariable, argument)?)?;
+        found.push(message_on(alloc, file, tree, n, Code::UnusedVariable, argument)?)?;
     }
     Ok(())
 }

@@ -1,5 +1,5 @@
 use Rattle.check_names.specs.Globals.{global_statement}
-use Rattle.check_names.proofs.NodeSteps.{nodes_on}
+use Rattle.rule_nodes.proofs.Below.{nodes_on}
 use Rattle.check_names.proofs.globals.check_globals.Goals as goal
 
 pub loop-n-preserved : goal.loop-n-preserved

@@ -1,5 +1,5 @@
 use Rattle.check_names.specs.Locals.{too_many}
-use Rattle.check_names.proofs.NodeSteps.{nodes_on}
+use Rattle.rule_nodes.proofs.Below.{nodes_on}
 use Rattle.check_names.proofs.locals.check_locals.Goals as goal
 
 pub loop-n-preserved : goal.loop-n-preserved

@@ -1,5 +1,5 @@
 use Rattle.check_names.specs.Undefined.{undefined_variable}
-use Rattle.check_names.proofs.NodeSteps.{nodes_on}
+use Rattle.rule_nodes.proofs.Below.{nodes_on}
 use Rattle.check_names.proofs.undefined.check_reads.Goals as goal
 
 pub loop-n-preserved : goal.loop-n-preserved

@@ -1,5 +1,5 @@
 use Rattle.flow_rules.specs.FlowRules.{said_of}
-use Rattle.flow_rules.proofs.NodeSteps.{nodes_on}
+use Rattle.rule_nodes.proofs.Below.{nodes_on}
 use Rattle.flow_rules.proofs.check.check_rule.Goals as goal
 
 pub loop-n-preserved : goal.loop-n-preserved

@@ -1,7 +1,7 @@
 use Rattle.std.proofs.Common.{None, sym, ap, ◌∙◌, arith}
-use Rattle.flow_rules.specs.Kinds.{is_owner}
-use Rattle.flow_rules.specs.Outwards.{owner_of}
-use Rattle.flow_rules.proofs.Above.{owner_root, owner_here, owner_on}
+use Rattle.rule_nodes.specs.Kinds.{is_owner}
+use Rattle.rule_nodes.specs.Outwards.{owner_of}
+use Rattle.rule_nodes.proofs.Above.{owner_root, owner_here, owner_on}
 use Rattle.flow_rules.proofs.ListLaws.{list_length, list_get}
 use Rattle.flow_rules.proofs.owners.owner_by.Goals as goal
 

@@ -1,6 +1,6 @@
 use Rattle.std.proofs.Common.{None, arith}
 use Rattle.tree_nodes.specs.Trees.{count_of}
-use Rattle.flow_rules.specs.Outwards.{owner_of}
+use Rattle.rule_nodes.specs.Outwards.{owner_of}
 use Rattle.flow_rules.proofs.ListLaws.{list_length, list_get}
 use Rattle.flow_rules.proofs.owners.owner_in.Goals as goal
 

@@ -1,4 +1,4 @@
-use Rattle.flow_rules.specs.Outwards.{owner_of}
+use Rattle.rule_nodes.specs.Outwards.{owner_of}
 use Rattle.flow_rules.specs.Tables.{IsListUpTo}
 use Rattle.flow_rules.proofs.owners.owners_of.Given as goal
 

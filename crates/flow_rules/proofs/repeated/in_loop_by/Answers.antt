@@ -1,7 +1,7 @@
 use Rattle.std.proofs.Common.{false, sym, ap, ◌∙◌, arith}
-use Rattle.flow_rules.specs.Kinds.{is_owner}
+use Rattle.rule_nodes.specs.Kinds.{is_owner}
 use Rattle.flow_rules.specs.Outwards.{in_loop}
-use Rattle.flow_rules.proofs.Above.{loop_root, loop_here, loop_ends, loop_on}
+use Rattle.flow_rules.proofs.Around.{loop_root, loop_here, loop_ends, loop_on}
 use Rattle.flow_rules.proofs.ListLaws.{list_length, list_get}
 use Rattle.flow_rules.proofs.repeated.in_loop_by.Goals as goal
 

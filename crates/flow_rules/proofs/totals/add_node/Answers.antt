@@ -1,6 +1,6 @@
 use Rattle.std.proofs.Common.{sym, ap, ◌∙◌, arith}
 use Rattle.flow_rules.specs.Sizes.{part_of}
-use Rattle.flow_rules.proofs.Above.{owner_made}
+use Rattle.rule_nodes.proofs.Above.{owner_made}
 use Rattle.flow_rules.proofs.TotalLaws.{total_few, totalled_more}
 use Rattle.flow_rules.proofs.totals.add_node.Goals as goal
 

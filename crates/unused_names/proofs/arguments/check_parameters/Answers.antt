@@ -1,6 +1,6 @@
 use Rattle.std.specs.Prelude.{◌∷◌, []}
 use Rattle.lint_messages.specs.declared.code.Code.TheVariants.{UnusedArgument}
-use Rattle.unused_names.specs.Nodes.{due, message_at}
+use Rattle.rule_nodes.specs.Nodes.{due, message_at}
 use Rattle.unused_names.specs.Arguments.{is_reported_parameter}
 use Rattle.unused_names.proofs.Lists.{flat_on, made_on}
 use Rattle.tree_nodes.specs.Trees.{count_of}

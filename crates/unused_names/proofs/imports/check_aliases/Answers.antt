@@ -1,4 +1,4 @@
-use Rattle.unused_names.specs.Nodes.{due}
+use Rattle.rule_nodes.specs.Nodes.{due}
 use Rattle.unused_names.specs.Imports.{is_reported_alias, import_message}
 use Rattle.unused_names.proofs.Lists.{flat_on, made_on}
 use Rattle.tree_nodes.specs.Trees.{count_of}

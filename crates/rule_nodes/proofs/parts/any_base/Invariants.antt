@@ -2,13 +2,13 @@ use Rattle.std.proofs.Common.{◌≡◌, ◌<◌, map, length}
 use Rattle.std.specs.Prelude.{All}
 use Rattle.tree_nodes.specs.Trees.{count_of}
 use Rattle.tree_nodes.specs.Kept.{number_of}
-use Rattle.unused_names.specs.Arguments.{has_base_among}
-use Rattle.unused_names.proofs.bodies.any_base.Given as goal
+use Rattle.rule_nodes.specs.Parts.{has_base}
+use Rattle.rule_nodes.proofs.parts.any_base.Given as goal
 
 abbrev pub invariant-loop-rest : goal.invariant-loop-rest
 invariant-loop-rest l = record {
   made : All (λ k. k.0 < count_of l.tree) l.rest;
-  same : has_base_among l.tree (map number_of l.rest) ≡ has_base_among l.tree (map number_of l.kids);
+  same : has_base l.tree (map number_of l.rest) ≡ has_base l.tree (map number_of l.kids);
 }
 
 abbrev pub decreases-loop-rest : goal.decreases-loop-rest
