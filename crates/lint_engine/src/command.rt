@@ -17,7 +17,7 @@ use crate::made::lint_made;
 use crate::writing::write_lines;
 use file_list::{Reading, gather};
 use lint_base::{Files, Gate, Memory, Sink, SinkFault, Text, Texts};
-use lint_report::{Answer, OptionsRead, Outcome, Whole, exit_status, scored_text, usage_text};
+use lint_report::{Answer, OptionsRead, Outcome, Whole, status, text, usage_text};
 use options::{Line, Options, UsageFault, read_words};
 use options_file::{read_options, read_settings};
 use std::alloc::Global;
@@ -41,10 +41,10 @@ fn report_of<R: Threads + Sync, G: Gate>(
     ensures { IfOk result (λ made. IsReport None options.now reading.now made.lines made.status) }
 {
     let found = lint_list(rt, alloc, reading, options, gate)?;
-    let lines = scored_text(alloc, reading, &found, options)?;
+    let lines = text(alloc, reading, &found, options)?;
     Ok(Report {
         lines,
-        status: exit_status(&found, options),
+        status: status(&found, options),
     })
 }
 
