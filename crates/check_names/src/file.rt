@@ -37,7 +37,7 @@ fn is_package_file(reading: &Reading, file: FileId) -> bool
     is_package(entry_at(reading.entries(), file.0 as usize))
 }
 
-// The messages on names of a file, a package's own or not.
+// The messages on names of a file, a package's own or not, in their order.
 fn check_names(
     alloc: Global,
     file: FileId,
@@ -60,10 +60,11 @@ fn check_names(
         scopes,
     )?;
     found.append(check_unused(alloc, file, is_package, tree, scopes)?)?;
-    Ok(found)
+    Ok(found.into_order(alloc)?)
 }
 
-/// The messages on names of a file of a reading, rule after rule. A file that the reading does not have is no package's own.
+/// The messages on names of a file of a reading, in the order of messages. A file that the reading does not have is no
+/// package's own.
 pub fn check(
     alloc: Global,
     file: FileId,

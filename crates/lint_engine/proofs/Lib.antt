@@ -1,5 +1,6 @@
 pub mod MadeReports
 pub mod Outcomes
+pub mod PartRead
 pub mod ReadFrom
 pub mod ShownLaws
 pub mod Statuses

@@ -115,6 +115,17 @@ pub record IsInOrder (said : Said) (read : Whole) : Type 0 where
   pub looked : (is_unlooked said ≡ true) ↔ (read.options ≡ NotLooked)
   pub listed : is_unlisted said (settings_of said read.options) ≡ true → read.list ≡ []
 
+-- not read, or all of it, by the questions that failed
+pub data IsPartOf {X : Type 0} (nothing : X) (whole : List Question → X) (read : X) : Type 0 where
+  unread : read ≡ nothing → IsPartOf nothing whole read
+  whole_read : (fails : List Question) → read ≡ whole fails → IsPartOf nothing whole read
+
+-- At any moment, where the files tell what they hold: the options file was not looked at, or it is read as what they hold; and the
+-- list is empty, or that of what they hold.
+pub record IsPartRead (said : Said) (tree : FileTree) (read : Whole) : Type 0 where
+  pub options : IsPartOf NotLooked (options_by said tree) read.options
+  pub list : IsPartOf [] (λ fails. list_by (generate_of said) (settings_of said read.options) tree fails (files_of said)) read.list
+
 -- how much of what was read has failed
 abbrev pub failures : Whole → ℕ
 failures read = count_failed read.options + count_by is_failed read.list

@@ -8,16 +8,16 @@ ghost use Rattle.lint_report.specs.Usage.{usage_line};
 ghost use Rattle.options.specs.Lines.{line_of};
 ghost use Rattle.options.specs.Usage.{is_memory};
 ghost use Rattle.file_list.specs.Entries.{is_failed};
-ghost use Rattle.file_list.specs.Gathered.{IsReadingOf};
+ghost use Rattle.file_list.specs.Gathered.{IsReadingOf, reading_of};
 ghost use Rattle.lint_engine.specs.Answers.{OnRan, OnSinkFault, OnMemory, OnWritten};
-ghost use Rattle.lint_engine.specs.Command.{IsRun, IsDetermined, IsStopped, IsUnwritten, IsReadFrom, IsInOrder, HasReadCauses, IsRefused, IsReport, IsPrinted, IsPartPrinted, failures};
+ghost use Rattle.lint_engine.specs.Command.{IsRun, IsDetermined, IsStopped, IsUnwritten, IsReadFrom, IsInOrder, HasReadCauses, IsRefused, IsReport, IsPrinted, IsPartPrinted, IsPartOf, IsPartRead, failures};
 
 use crate::list::lint_list;
 use crate::made::lint_made;
 use crate::writing::write_lines;
 use file_list::{Reading, gather};
 use lint_base::{Files, Gate, Memory, Sink, SinkFault, Text, Texts};
-use lint_report::{Answer, OptionsRead, Outcome, Whole, exit_status, scored_text, usage_text};
+use lint_report::{Answer, OptionsRead, Outcome, Whole, status, text, usage_text};
 use options::{Line, Options, UsageFault, read_words};
 use options_file::{read_options, read_settings};
 use std::alloc::Global;
@@ -41,10 +41,10 @@ fn report_of<R: Threads + Sync, G: Gate>(
     ensures { IfOk result (λ made. IsReport None options.now reading.now made.lines made.status) }
 {
     let found = lint_list(rt, alloc, reading, options, gate)?;
-    let lines = scored_text(alloc, reading, &found, options)?;
+    let lines = text(alloc, reading, &found, options)?;
     Ok(Report {
         lines,
-        status: exit_status(&found, options),
+        status: status(&found, options),
     })
 }
 
@@ -109,6 +109,7 @@ fn lint_files<R: Threads + Sync, F: Files, O: Sink, G: Gate>(
     ensures part { OnSinkFault result.answer (IsPartPrinted None options.now result.read.list (O.written out.old) (O.written out.new)) }
     ensures nothing { OnMemory result.answer (O.written out.new ≡ O.written out.old) }
     ensures read { ForSome (F.held files.old) (λ tree. OnWritten result.answer (IsReadingOf tree (F.failed files.old) (F.failed files.new) (F.faults files.old) (F.faults files.new) options.now args.now result.read.list)) }
+    ensures part_read { ForSome (F.held files.old) (λ tree. IsPartOf [] (λ fails. reading_of tree fails options.now args.now) result.read.list) }
     ensures failed { RoseBy (count_by is_failed result.read.list) (F.faults files.old) (F.faults files.new) }
     ensures options { result.read.options ≡ read }
 {
@@ -149,6 +150,7 @@ fn lint_line<R: Threads + Sync, F: Files, O: Sink, E: Sink, G: Gate>(
     ensures cause { OnSinkFault result.answer (Rose (O.faults out.old) (O.faults out.new) ⊎ Rose (E.faults err.old) (E.faults err.new)) }
     ensures unwritten { OnMemory result.answer (IsUnwritten (O.written out.old) (O.written out.new) (E.written err.old) (E.written err.new)) }
     ensures read { ForSome (F.held files.old) (λ tree. OnWritten result.answer (IsReadFrom (Ok line.now) tree (F.failed files.old) (F.failed files.new) (F.faults files.old) (F.faults files.new) result.read)) }
+    ensures part_read { ForSome (F.held files.old) (λ tree. IsPartRead (Ok line.now) tree result.read) }
     ensures order { OnWritten result.answer (IsInOrder (Ok line.now) result.read) }
     ensures failed { HasReadCauses (F.faults files.old) (F.faults files.new) result.read }
 {
@@ -205,6 +207,9 @@ pub fn lint_command<R: Threads + Sync, F: Files, O: Sink, E: Sink, G: Gate>(
 
     // What was read is what the files hold, but for the questions that failed in this call.
     ensures read { ForSome (F.held files.old) (λ tree. OnWritten result.answer (IsReadFrom (line_of words.now) tree (F.failed files.old) (F.failed files.new) (F.faults files.old) (F.faults files.new) result.read)) }
+
+    // Also where memory ran out, what is handed back as read is nothing, or what the files hold.
+    ensures part_read { ForSome (F.held files.old) (λ tree. IsPartRead (line_of words.now) tree result.read) }
 
     // On every device the options file comes behind good words, and the files behind a good options file. For a made text
     // nothing is asked.

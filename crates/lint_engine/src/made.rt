@@ -8,7 +8,7 @@ ghost use Rattle.lint_engine.specs.Command.{IsReport, IsPrinted, IsPartPrinted};
 use crate::command::{Report, no_files, write_report};
 use crate::list::lint_list;
 use lint_base::{Gate, Memory, Sink, Texts};
-use lint_report::{Answer, OptionsRead, Outcome, exit_status, summary_text};
+use lint_report::{Answer, OptionsRead, Outcome, status, summary_text};
 use made_text::made_reading;
 use options::{Edits, Line, Options};
 use std::alloc::Global;
@@ -28,7 +28,7 @@ fn report_made<R: Threads + Sync, G: Gate>(
     let options = Options::of(alloc, &Edits::new(alloc), &line.edits)?;
     let reading = made_reading(alloc, classes)?;
     let found = lint_list(rt, alloc, &reading, &options, gate)?;
-    let status = exit_status(&found, &options);
+    let status = status(&found, &options);
     let mut lines = Texts::new(alloc);
     lines.push(summary_text(alloc, &found, status)?)?;
     Ok(Report { lines, status })

@@ -3,6 +3,7 @@ ghost use Rattle.std.specs.Prelude.{◌≡◌, ◌≤◌, ◌↔◌, [], Some, I
 ghost use Rattle.std.specs.Option.{ForSome};
 ghost use Rattle.std.specs.FinMap as map;
 ghost use Rattle.lint_outside.specs.Causes.{Rose, HasCause, after_fault, failed_after};
+ghost use Rattle.lint_outside.specs.Counts.{count_after, count_after_fault};
 ghost use Rattle.lint_outside.specs.Held.{kind_of, content_of, listing_of, HasAtMostBytes, HasAtMostNames};
 ghost use Rattle.lint_outside.specs.MemFiles.{tree_of};
 ghost use Rattle.lint_outside.specs.declared.outside.Question.TheVariants as question;
@@ -65,6 +66,7 @@ impl FailingFiles {
     fn fault(&mut self, question: Question) -> FilesFault
         ensures later { files_faults self.old ≤ files_faults self.new }
         ensures rose { result ≡ FilesFault.Failed → Rose (files_faults self.old) (files_faults self.new) }
+        ensures exact { files_faults self.new ≡ count_after_fault (files_faults self.old) result }
         ensures failed { failed_questions self.new ≡ after_fault (failed_questions self.old) question result }
         ensures inner { inner_files self.new ≡ inner_files self.old }
         ensures made { calls_made self.new ≡ calls_made self.old }
@@ -92,6 +94,7 @@ impl Files for FailingFiles {
     fn look(&mut self, path: &Text) -> Result<Kind, FilesFault>
         ensures held { Some (tree_of (inner_files self.new)) ≡ Some (tree_of (inner_files self.old)) }
         ensures cause { HasCause (files_faults self.old) (files_faults self.new) result }
+        ensures exact { files_faults self.new ≡ count_after (files_faults self.old) result }
         ensures answer { ForSome (Some (tree_of (inner_files self.old))) (λ tree. IfOk result (λ kind. kind ≡ kind_of (map.get tree path.now))) }
         ensures failed { ForSome (Some (tree_of (inner_files self.old))) (λ tree. failed_questions self.new ≡ failed_after (failed_questions self.old) (question.Look path.now) result) }
 
@@ -110,6 +113,7 @@ impl Files for FailingFiles {
         requires { ForSome (Some (tree_of (inner_files self.old))) (λ tree. kind_of (map.get tree path.now) ≡ Kind.Folder) }
         ensures held { Some (tree_of (inner_files self.new)) ≡ Some (tree_of (inner_files self.old)) }
         ensures cause { HasCause (files_faults self.old) (files_faults self.new) result }
+        ensures exact { files_faults self.new ≡ count_after (files_faults self.old) result }
         ensures answer { ForSome (Some (tree_of (inner_files self.old))) (λ tree. IfOk result (λ listing. listing ≡ listing_of most (map.get tree path.now))) }
         ensures most { IfOk result (HasAtMostNames most) }
         ensures failed { ForSome (Some (tree_of (inner_files self.old))) (λ tree. failed_questions self.new ≡ failed_after (failed_questions self.old) (question.Names path.now) result) }
@@ -130,6 +134,7 @@ impl Files for FailingFiles {
         requires { ForSome (Some (tree_of (inner_files self.old))) (λ tree. kind_of (map.get tree path.now) ≡ Kind.File) }
         ensures held { Some (tree_of (inner_files self.new)) ≡ Some (tree_of (inner_files self.old)) }
         ensures cause { HasCause (files_faults self.old) (files_faults self.new) result }
+        ensures exact { files_faults self.new ≡ count_after (files_faults self.old) result }
         ensures answer { ForSome (Some (tree_of (inner_files self.old))) (λ tree. IfOk result (λ content. content ≡ content_of most (map.get tree path.now))) }
         ensures most { IfOk result (HasAtMostBytes most) }
         ensures failed { ForSome (Some (tree_of (inner_files self.old))) (λ tree. failed_questions self.new ≡ failed_after (failed_questions self.old) (question.Read path.now) result) }

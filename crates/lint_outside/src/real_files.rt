@@ -1,8 +1,12 @@
 // The files of the system.
 ghost use Rattle.std.specs.Prelude.{◌≡◌, None, Ok, [], IfOk};
-ghost use Rattle.lint_outside.specs.Causes.{HasCause};
+ghost use Rattle.std.specs.Option.{ForSome};
+ghost use Rattle.std.specs.FinMap as map;
+ghost use Rattle.lint_outside.specs.Causes.{HasCause, failed_after};
+ghost use Rattle.lint_outside.specs.FileTree.{FileTree};
 ghost use Rattle.lint_outside.specs.Counts.{count_after};
-ghost use Rattle.lint_outside.specs.Held.{HasAtMostBytes, HasAtMostNames};
+ghost use Rattle.lint_outside.specs.Held.{kind_of, content_of, listing_of, HasAtMostBytes, HasAtMostNames};
+ghost use Rattle.lint_outside.specs.declared.outside.Question.TheVariants as question;
 
 use crate::{Content, Files, FilesFault, Kind, Listing};
 use lint_values::{Bytes, Text, Texts};
@@ -101,17 +105,35 @@ impl<'r, R: rt::Files + AllocGlobal> Files for RealFiles<'r, R> {
 
     ghost failed = { λ _. [] };
 
-    fn look(&mut self, path: &Text) -> Result<Kind, FilesFault> {
+    // The count rises by one at a fault, and at nothing else; so in the three calls.
+    fn look(&mut self, path: &Text) -> Result<Kind, FilesFault>
+        ensures cause { HasCause (real_faults self.old) (real_faults self.new) result }
+        ensures exact { real_faults self.new ≡ count_after (real_faults self.old) result }
+        ensures answer { ForSome None (λ (tree : FileTree). IfOk result (λ kind. kind ≡ kind_of (map.get tree path.now))) }
+        ensures failed { ForSome None (λ (tree : FileTree). [] ≡ failed_after [] (question.Look path.now) result) }
+    {
         let kind = kind_at(self.rt, path.as_str());
         self.counted(kind)
     }
 
-    fn names(&mut self, alloc: Global, path: &Text, most: u32) -> Result<Listing, FilesFault> {
+    fn names(&mut self, alloc: Global, path: &Text, most: u32) -> Result<Listing, FilesFault>
+        ensures cause { HasCause (real_faults self.old) (real_faults self.new) result }
+        ensures exact { real_faults self.new ≡ count_after (real_faults self.old) result }
+        ensures answer { ForSome None (λ (tree : FileTree). IfOk result (λ listing. listing ≡ listing_of most (map.get tree path.now))) }
+        ensures failed { ForSome None (λ (tree : FileTree). [] ≡ failed_after [] (question.Names path.now) result) }
+        ensures most { IfOk result (HasAtMostNames most) }
+    {
         let listing = names_in(self.rt, alloc, path.as_str(), most);
         self.counted(listing)
     }
 
-    fn read(&mut self, alloc: Global, path: &Text, most: u32) -> Result<Content, FilesFault> {
+    fn read(&mut self, alloc: Global, path: &Text, most: u32) -> Result<Content, FilesFault>
+        ensures cause { HasCause (real_faults self.old) (real_faults self.new) result }
+        ensures exact { real_faults self.new ≡ count_after (real_faults self.old) result }
+        ensures answer { ForSome None (λ (tree : FileTree). IfOk result (λ content. content ≡ content_of most (map.get tree path.now))) }
+        ensures failed { ForSome None (λ (tree : FileTree). [] ≡ failed_after [] (question.Read path.now) result) }
+        ensures most { IfOk result (HasAtMostBytes most) }
+    {
         let content = content_at(self.rt, alloc, path.as_str(), most);
         self.counted(content)
     }

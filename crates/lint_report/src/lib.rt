@@ -12,9 +12,9 @@ mod usage;
 
 pub use findings::Findings;
 pub use outcome::{Answer, OptionsRead, Outcome, Whole};
-pub use rating::scored_text;
-pub use report::{ReportLines, status, text};
+pub use rating::text;
+pub use report::ReportLines;
 pub use scores::{Quotient, exact_score, score};
-pub use statuses::exit_status;
+pub use statuses::status;
 pub use summary::summary_text;
 pub use usage::usage_text;

@@ -1,9 +1,10 @@
-// The lines of the report that say the score.
+// The report: the lines of the messages, and those that say the score.
 ghost use Rattle.std.specs.Prelude.{◌≡◌, ◌≤◌, ◌++◌, [], codes, if◌then◌else◌, IfOk, OnOk, length};
 ghost use Rattle.std.specs.List.{repeat};
 ghost use Rattle.lint_report.specs.Score.{is_score_printed, rating, rating_lines, score_lines, score_of, whole_report};
 
-use crate::{Findings, ReportLines, score, text};
+use crate::report::report_lines;
+use crate::{Findings, ReportLines, score};
 use file_list::Reading;
 use lint_values::{Memory, Text, Texts};
 use options::Options;
@@ -60,8 +61,9 @@ fn is_score_printed(options: &Options) -> bool
     options.score && !options.errors_only
 }
 
-/// The report's lines with those of the score, where there is one and the options print it.
-pub fn scored_text(
+/// The report: the lines of the messages, and those of the score, where there is one and the options print it. A message
+/// of a file that the reading lacks has no line.
+pub fn text(
     alloc: Global,
     reading: &Reading,
     found: &Findings,
@@ -69,7 +71,7 @@ pub fn scored_text(
 ) -> Result<ReportLines, Memory>
     ensures { IfOk result (λ lines. lines ≡ whole_report reading.now found.now options.now) }
 {
-    let mut lines = text(alloc, reading, found, options)?;
+    let mut lines = report_lines(alloc, reading.entries(), found.messages.as_slice())?;
     if is_score_printed(options) {
         push_score(alloc, found, &mut lines)?;
     }

@@ -1,13 +1,11 @@
-// The text report.
+// The lines of the messages.
 ghost use Rattle.std.specs.Prelude.{◌≡◌, ◌++◌, IfOk, OnOk, slice_get};
 ghost use Rattle.std.specs.Option.{option_copied};
-ghost use Rattle.lint_report.specs.Report.{module_line, message_line, heading, line_of_message, report, bits};
+ghost use Rattle.lint_report.specs.Report.{module_line, message_line, heading, line_of_message, report};
 
-use crate::Findings;
-use file_list::{Listed, Reading};
+use file_list::Listed;
 use lint_messages::{Message, message_text};
 use lint_values::{FileId, Memory, Text, Texts};
-use options::Options;
 use std::alloc::Global;
 
 /// The lines of a report, with their newlines.
@@ -70,7 +68,12 @@ fn listed_at(reading: &[Listed], file: FileId) -> Option<&Listed>
     reading.get(file.0 as usize)
 }
 
-fn report_lines(alloc: Global, reading: &[Listed], messages: &[Message]) -> Result<Texts, Memory>
+// The lines of these messages. A message of a file that the reading lacks has none.
+pub(crate) fn report_lines(
+    alloc: Global,
+    reading: &[Listed],
+    messages: &[Message],
+) -> Result<ReportLines, Memory>
     ensures { IfOk result (λ lines. lines ≡ report reading.now messages.now) }
 {
     let mut lines = Texts::new(alloc);
@@ -82,27 +85,4 @@ fn report_lines(alloc: Global, reading: &[Listed], messages: &[Message]) -> Resu
         last = Some(m.file.0);
     }
     Ok(lines)
-}
-
-/// The report's lines. A message of a file that the reading lacks has none.
-pub fn text(
-    alloc: Global,
-    reading: &Reading,
-    found: &Findings,
-    _options: &Options,
-) -> Result<ReportLines, Memory>
-    ensures { IfOk result (λ lines. lines ≡ report reading.now found.now.messages) }
-{
-    report_lines(alloc, reading.entries(), found.messages.as_slice())
-}
-
-/// The exit status: the union of the shown messages' bits.
-pub fn status(found: &Findings, _options: &Options) -> u8
-    ensures { result ≡ bits found.now.messages }
-{
-    found
-        .messages
-        .as_slice()
-        .iter()
-        .fold(0, |all, m| all | m.code.bit())
 }

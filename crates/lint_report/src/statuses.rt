@@ -77,7 +77,7 @@ fn status_by_score(least: u32, messages: &[Message], score: Option<Quotient>) ->
 /// The exit status: 0 with `--exit-zero`; else the shown messages' bits, or 1 where there are none, where a message is
 /// named in `--fail-on` or the score is below `--fail-under`; else 0 where there is a score, and the bits where there is
 /// none.
-pub fn exit_status(found: &Findings, options: &Options) -> u8
+pub fn status(found: &Findings, options: &Options) -> u8
     ensures { result ≡ status_of found.now options.now }
 {
     let messages = found.messages.as_slice();

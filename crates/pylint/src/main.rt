@@ -1,59 +1,42 @@
 // The command `pylint`.
 #![tactic(auto)]
 
-ghost use Rattle.std.specs.Prelude.{◌≡◌};
-ghost use Rattle.pylint.specs.Status.{exit_status};
+mod run;
 
-use lint_base::{OpenGate, RealFiles, RealSink, Text};
-use lint_engine::{Answer, lint_command};
+#[cfg(test)]
+mod tests;
+
+use crate::run::{WANT_OF_MEMORY, run, words_of};
+use lint_base::{RealFiles, RealSink};
 use std::io::ErrorKind;
 use std::process::ExitCode;
 use std::{env, io};
 
-const WANT_OF_MEMORY: u8 = 70;
-
 const ARGUMENTS_REFUSED: u8 = 71;
 
-const WRITE_FAULT: u8 = 74;
-
-// The words behind the program's name.
-fn words(rt: &HostRuntime) -> io::Result<Vec<Text>> {
-    let mut words = Vec::new(rt.alloc());
-    for word in env::args(rt)?.skip(1) {
-        words.push(Text::from_string(word))?;
-    }
-    Ok(words)
+// The arguments of the program, its name among them.
+fn arguments(rt: &HostRuntime) -> io::Result<Vec<String>> {
+    Ok(env::args(rt)?.collect(rt.alloc())?)
 }
 
-fn exit_status(answer: Answer) -> u8
-    ensures { result ≡ exit_status answer }
-{
-    match answer {
-        Answer::Ran(status) => status,
-        Answer::Memory => WANT_OF_MEMORY,
-        Answer::SinkFault => WRITE_FAULT,
+// The status where the arguments can't be had.
+fn refusal(error: &io::Error) -> u8 {
+    match error.kind() {
+        ErrorKind::OutOfMemory => WANT_OF_MEMORY,
+        _ => ARGUMENTS_REFUSED,
     }
 }
 
 fn main(rt: HostRuntime) -> ExitCode {
-    let words = match words(&rt) {
-        Ok(words) => words,
-        Err(error) if error.kind() == ErrorKind::OutOfMemory => {
-            return ExitCode::from(WANT_OF_MEMORY);
-        }
-        Err(_) => return ExitCode::from(ARGUMENTS_REFUSED),
+    let arguments = match arguments(&rt) {
+        Ok(arguments) => arguments,
+        Err(error) => return ExitCode::from(refusal(&error)),
+    };
+    let Ok(words) = words_of(rt.alloc(), &arguments) else {
+        return ExitCode::from(WANT_OF_MEMORY);
     };
     let mut files = RealFiles::new(&rt);
     let mut out = RealSink::new(rt.stdout());
     let mut err = RealSink::new(rt.stderr());
-    let outcome = lint_command(
-        &rt,
-        rt.alloc(),
-        words.as_slice(),
-        &mut files,
-        &mut out,
-        &mut err,
-        &OpenGate,
-    );
-    ExitCode::from(exit_status(outcome.answer))
+    run(&rt, rt.alloc(), &words, &mut files, &mut out, &mut err).code
 }

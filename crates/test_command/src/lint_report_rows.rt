@@ -2,7 +2,7 @@ ghost use Rattle.std.specs.Prelude.{◌≡◌, ◌<◌, true};
 
 use file_list::{Entry, Reading};
 use lint_messages::{Code, Message, Messages};
-use lint_report::{Findings, ReportLines, exit_status, score, scored_text};
+use lint_report::{Findings, ReportLines, score, status, text};
 use lint_values::{FileId, Pos, Text, Texts};
 use options::{Edits, Options, read_words};
 use std::alloc::Global;
@@ -105,7 +105,7 @@ fn first_case_decides_the_status(rt: HostRuntime) -> Result<(), Fail> {
         let options = options_of(alloc, words)?;
         let found = found(alloc, statements, categories)?;
         assert_eq!(rt;
-            exit_status(&found, &options),
+            status(&found, &options),
             expected,
             "{words} {categories}"
         );
@@ -135,7 +135,7 @@ fn reports(
     reading.add(path, module_name, false, Entry::Missing)?;
     let found = found(alloc, statements, categories)?;
     let options = options_of(alloc, words)?;
-    let lines = scored_text(alloc, &reading, &found, &options)?;
+    let lines = text(alloc, &reading, &found, &options)?;
     assert_eq!(rt; joined(alloc, &lines)?.as_str(), expected);
     Ok(())
 }

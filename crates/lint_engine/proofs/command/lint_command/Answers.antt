@@ -1,9 +1,10 @@
-use Rattle.std.proofs.Common.{◌≤◌, ap, subst}
+use Rattle.std.proofs.Common.{◌≤◌, ap, subst, sym}
 use Rattle.std.specs.Prelude.{IfSome}
 use Rattle.options.specs.Lines.{line_of}
 use Rattle.options_file.specs.Settings.{settings_of}
-use Rattle.lint_engine.specs.Command.{generate_of}
+use Rattle.lint_engine.specs.Command.{IsPartRead, generate_of}
 use Rattle.lint_engine.proofs.Outcomes.{for_written, made_run, made_status, made_stopped, map_written, refused_run, refused_stopped}
+use Rattle.lint_engine.proofs.PartRead.{nothing_part}
 use Rattle.lint_engine.proofs.ReadFrom.{made_read, nothing_read}
 use Rattle.lint_engine.proofs.ShownLaws.{determined}
 use Rattle.lint_engine.proofs.command.lint_command.Goals as goal
@@ -55,3 +56,12 @@ returns-clause-read g c = λ tree e.
     map_written c.refuse-answer.result _ _
     (λ told. nothing_read (line_of c.args.words.now) c.in-Err.fault (c.in-Err.ensures.refused told) c.no_files.result c.no_files.ensures.options c.no_files.ensures.list tree _ _)
     c.refuse-answer.ensures.told
+
+pub returns-in-Some-clause-part_read : goal.returns-in-Some-clause-part_read
+returns-in-Some-clause-part_read g c = λ tree e. nothing_part (line_of c.args.words.now) c.lint_made.result.read c.lint_made.ensures.options c.lint_made.ensures.list tree
+
+pub returns-in-None-clause-part_read : goal.returns-in-None-clause-part_read
+returns-in-None-clause-part_read g c = λ tree e. subst (λ said. IsPartRead said tree c.lint_line.result.read) (sym c.in-Ok.ensures.line) (c.lint_line.ensures.part_read tree e)
+
+pub returns-clause-part_read : goal.returns-clause-part_read
+returns-clause-part_read g c = λ tree e. nothing_part (line_of c.args.words.now) c.no_files.result c.no_files.ensures.options c.no_files.ensures.list tree

@@ -3,6 +3,7 @@ use Rattle.options_file.specs.Reading.{IsOptionsReadOf, options_path}
 use Rattle.options_file.specs.Settings.{settings_by}
 use Rattle.lint_engine.proofs.Outcomes.{map_written, read_run, read_status, read_stopped, refused_run, refused_stopped}
 use Rattle.lint_engine.proofs.ReadFrom.{both_read, options_alone}
+use Rattle.lint_engine.proofs.PartRead.{both_part, nothing_part, options_part}
 use Rattle.lint_engine.proofs.command.lint_line.Goals as goal
 
 pub returns-in-Ok-read_settings-clause-ran : goal.returns-in-Ok-read_settings-clause-ran
@@ -44,3 +45,14 @@ returns-clause-read g c = λ tree e.
     map_written c.refuse-answer.result _ _
     (λ told. options_alone c.args.line.now c.requires c.in-Err.fault c.no_files-2.result (ap (settings_by c.args.line.now) c.no_files-2.ensures.options ∙ c.in-Err.ensures.refused told) c.no_files-2.ensures.list tree _ _ _ _ first)
     c.refuse-answer.ensures.told
+
+pub returns-in-Ok-read_settings-clause-part_read : goal.returns-in-Ok-read_settings-clause-part_read
+returns-in-Ok-read_settings-clause-part_read g c = λ tree e.
+    let is = ap (settings_by c.args.line.now) c.lint_files.ensures.options ∙ c.in-Ok-read_settings.ensures.options in
+    let first = subst (λ read. IsOptionsReadOf tree (g.F.Files.failed c.args.files.now) (g.F.Files.failed c.read_options.new.files) (g.F.Files.faults c.args.files.now) (g.F.Files.faults c.read_options.new.files) (options_path c.args.line.now.rcfile) read) (sym c.lint_files.ensures.options) (c.in-Ok.ensures.read tree e) in
+    both_part c.args.line.now c.requires c.lint_files.result.read tree _ _ _ _ first _ is (rw c.as_slice-args.ensures at c.lint_files.ensures.part_read tree (c.read_options.ensures.held ∙ e))
+
+pub returns-clause-part_read : goal.returns-clause-part_read
+returns-clause-part_read g c = λ tree e.
+    let first = subst (λ read. IsOptionsReadOf tree (g.F.Files.failed c.args.files.now) (g.F.Files.failed c.read_options.new.files) (g.F.Files.faults c.args.files.now) (g.F.Files.faults c.read_options.new.files) (options_path c.args.line.now.rcfile) read) (sym c.no_files-2.ensures.options) (c.in-Ok.ensures.read tree e) in
+    options_part c.args.line.now c.requires c.no_files-2.result tree _ _ _ _ first c.no_files-2.ensures.list
