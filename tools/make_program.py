@@ -8,7 +8,7 @@ call proves what has changed and what stands on it. One call at a time makes the
 call that was cut off left is taken up. All is told on standard error. Status: 0 made, 71 not, 128 + N cut off by the signal N.
 
   make_program.py                 makes crates/pylint/out/pylint, where it is missing or older than its sources
-  make_program.py --plan N SECONDS   what it would take on N processors, one a crate, by a file of lines 'CRATE SECONDS'; proves nothing
+  make_program.py --plan N        what it would take on N processors, one a crate, by tools/crate_seconds.txt; proves nothing
   make_program.py --root FOLDER --program NAME   another repository's program (for tests)
 
 PYLINT_MAKE_JOBS gives the number of processors to use, in place of all."""
@@ -26,8 +26,8 @@ from pathlib import Path
 
 # What a check of one crate takes at most with one job, and so what must be free to start a further one.
 MEMORY_OF_A_CHECK = 2_200_000_000
-# What a crate costs before any has been measured in this run, in seconds: docs/BENCHMARKS.md.
-SECONDS_A_CRATE, SECONDS_A_KILOBYTE = 50, 1.1
+# What a crate that tools/crate_seconds.txt does not list takes, in seconds.
+SECONDS_A_CRATE, SECONDS_A_KILOBYTE = 50, 0.7
 SOURCES = ("src", "specs", "proofs", "data", "args", "stdin", "stdout", "status")
 CANT_BE_MADE = 71
 
@@ -105,6 +105,13 @@ def schedule(crates, seconds, processors, done=(), begun=None):
         now = max(now, running.pop(name))
         ended.add(name)
     return now, rest
+
+
+def listed_seconds(crates):
+    table = Path(__file__).resolve().parent / "crate_seconds.txt"
+    rows = [line.split("#")[0].split() for line in (table.read_text().splitlines() if table.is_file() else [])]
+    listed = {row[0]: float(row[1]) for row in rows if row}
+    return {n: listed.get(n, SECONDS_A_CRATE + SECONDS_A_KILOBYTE * crates.size[n] / 1000) for n in crates.order}
 
 
 def words(seconds):
@@ -206,12 +213,12 @@ class Making:
         self.running[name] = (child, time.time(), jobs)
 
     def seconds(self):
-        """About what each crate takes: by its sources, times what those that ended in this run took beside that."""
-        by_size = {n: SECONDS_A_CRATE + SECONDS_A_KILOBYTE * self.crates.size[n] / 1000 for n in self.crates.order}
-        measured, expected = sum(s for _, s in self.ended), sum(by_size[n] for n, _ in self.ended)
-        # The first few say little: the table weighs as three crates more.
+        """About what each crate takes: by the table, times what those that ended in this run took beside it."""
+        listed = listed_seconds(self.crates)
+        measured, expected = sum(s for _, s in self.ended), sum(listed[n] for n, _ in self.ended)
+        # The first few say little: the table weighs as some more that took what it says.
         factor = (measured + 300) / (expected + 300)
-        return {n: factor * by_size[n] for n in by_size}
+        return {n: factor * listed[n] for n in listed}
 
     def start_what_can(self):
         seconds = self.seconds()
@@ -340,16 +347,17 @@ def make(root, program):
         (place / "progress").unlink(missing_ok=True)
 
 
-def plan(root, program, processors, path):
-    """What a file of measured seconds says of a making from nothing."""
+def plan(root, program, processors):
+    """What the table of seconds says of a making from nothing."""
     crates = Crates(root, program)
-    seconds = {line.split()[0]: float(line.split()[1]) for line in Path(path).read_text().splitlines() if line.strip()}
+    crates.measure("")
+    seconds = listed_seconds(crates)
     total, rest = schedule(crates, seconds, processors)
     chain, name = [], max(crates.order, key=lambda n: rest[n])
     while name:
         chain.append(name)
         name = max(crates.above[name], key=lambda n: rest[n], default=None)
-    print(f"{len(crates.order)} crates, {sum(seconds[n] for n in crates.order):.0f} s of one processor; on {processors} processors {total:.0f} s")
+    print(f"{len(crates.order)} crates, {sum(seconds.values()):.0f} s of one processor; on {processors} processors {total:.0f} s")
     print(f"the longest chain, {rest[chain[0]]:.0f} s: " + ", ".join(f"{n} {seconds[n]:.0f}" for n in chain))
 
 
@@ -361,10 +369,10 @@ def main():
     parser = argparse.ArgumentParser(description=__doc__, formatter_class=argparse.RawDescriptionHelpFormatter)
     parser.add_argument("--root", type=Path, default=Path(__file__).resolve().parent.parent)
     parser.add_argument("--program", default="pylint")
-    parser.add_argument("--plan", nargs=2, metavar=("N", "SECONDS"))
+    parser.add_argument("--plan", type=int, metavar="N")
     arguments = parser.parse_args()
     if arguments.plan:
-        return plan(arguments.root, arguments.program, int(arguments.plan[0]), arguments.plan[1])
+        return plan(arguments.root, arguments.program, arguments.plan)
     for signum in (signal.SIGINT, signal.SIGTERM, signal.SIGHUP):
         signal.signal(signum, stop)
     try:
