@@ -289,13 +289,13 @@ class Making:
             while time.time() < until and any(child.poll() is None for child, _, _ in self.running.values()):
                 time.sleep(0.05)
 
-    def hand_over(self, kit):
-        """The program to its place, whole or not at all, and what it was proved from beside it."""
+    def hand_over(self, kit, began):
+        """The program to its place, whole or not at all, as old as the sources that were read; and the record of what it was proved from."""
         name = self.crates.program
         out = self.root / "crates" / name / "out"
         out.mkdir(parents=True, exist_ok=True)
         shutil.copy2(self.built(), out / f".{name}.new")
-        os.utime(out / f".{name}.new")
+        os.utime(out / f".{name}.new", (began, began))
         os.replace(out / f".{name}.new", out / name)
         record = {"kit": kit, "program": hashlib.sha256((out / name).read_bytes()).hexdigest(),
                   "sources": {n: self.crates.sums[n] for n in self.crates.order}}
@@ -319,7 +319,7 @@ def take_lock(place, progress):
 
 def make(root, program):
     if shutil.which("rt") is None:
-        raise Stopped(CANT_BE_MADE, "the program is not made yet, and making it wants the Rattle kit's command rt on the PATH; "
+        raise Stopped(CANT_BE_MADE, "the program is missing or older than its sources, and making it wants the Rattle kit's command rt on the PATH; "
                                     "a package of the made program wants no kit: see README.md")
     place = root / "out" / "make"
     place.mkdir(parents=True, exist_ok=True)
@@ -328,6 +328,7 @@ def make(root, program):
     if waiting.last:
         waiting.end()
     kit = subprocess.run(["rt", "version"], check=True, capture_output=True, text=True).stdout.strip()
+    began = time.time()
     crates = Crates(root, program)
     crates.measure(kit)
     progress = Progress(place / "progress")
@@ -339,7 +340,7 @@ def make(root, program):
             progress.end(f"the program is made: {len(crates.order)} crates proved"
                          + (f", {making.kept} of them before" if making.kept else "")
                          + f", in {words(time.time() - progress.started)}")
-        making.hand_over(kit)
+        making.hand_over(kit, began)
     except BaseException:
         progress.end()
         raise
