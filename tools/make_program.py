@@ -25,7 +25,7 @@ import time
 from pathlib import Path
 
 # What a check of one crate takes at most with one job, and so what must be free to start a further one.
-MEMORY_OF_A_CHECK = 2_200_000_000
+MEMORY_OF_A_CHECK = 2_400_000_000
 # What a crate that tools/crate_seconds.txt does not list takes, in seconds.
 SECONDS_A_CRATE, SECONDS_A_KILOBYTE = 50, 0.7
 SOURCES = ("src", "specs", "proofs", "data", "args", "stdin", "stdout", "status")
