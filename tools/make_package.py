@@ -1,5 +1,5 @@
 #!/usr/bin/env python3
-"""Makes a Debian package and a plain archive of the made program, from what `bin/pylint` left below out/make:
+"""Makes a Debian package and a plain archive of the made program, from what `bin/pylint` left behind it:
 
   make_package.py FOLDER [--program FILE --record FILE --log FILE]
 
@@ -19,6 +19,7 @@ import tempfile
 from pathlib import Path
 
 sys.dont_write_bytecode = True
+import make_program  # noqa: E402
 import release_texts  # noqa: E402
 
 ROOT = Path(__file__).resolve().parent.parent
@@ -145,8 +146,8 @@ def main():
     parser = argparse.ArgumentParser(description=__doc__, formatter_class=argparse.RawDescriptionHelpFormatter)
     parser.add_argument("folder", type=Path)
     parser.add_argument("--program", type=Path, default=ROOT / "crates" / "pylint" / "out" / "pylint")
-    parser.add_argument("--record", type=Path, default=ROOT / "out" / "make" / "record.json")
-    parser.add_argument("--log", type=Path, default=ROOT / "out" / "make" / "logs" / "pylint.log")
+    parser.add_argument("--record", type=Path, default=make_program.place_of(ROOT) / "record.json")
+    parser.add_argument("--log", type=Path, default=make_program.place_of(ROOT) / "logs" / "pylint.log")
     words = parser.parse_args()
     record, program, log = json.loads(words.record.read_text()), words.program.read_bytes(), words.log.read_text(errors="replace")
     if hashlib.sha256(program).hexdigest() != record["program"]:

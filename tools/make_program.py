@@ -1,7 +1,7 @@
 #!/usr/bin/env python3
 """Makes the proved program: proves the crates that it stands on, several at once, and builds it. `bin/pylint` calls it.
 
-Each crate is proved by `rt lib` (the program by `rt run`) in a folder of its own, out/make/NAME, which holds copies of its sources
+Each crate is proved by `rt lib` (the program by `rt run`) in a folder of its own, PLACE/NAME, which holds copies of its sources
 and of those below it, as they were at the start, and the libraries below it: in one folder `rt` works on one crate at a time. The
 crate that most still waits for comes first. What is proved is kept, by the sum of all that it was proved from, so a later
 call proves what has changed and what stands on it. One call at a time makes the program, others wait for it; what a
@@ -9,9 +9,11 @@ call that was cut off left is taken up. All is told on standard error. Status: 0
 
   make_program.py                 makes crates/pylint/out/pylint, where it is missing or older than its sources
   make_program.py --plan N        what it would take on N processors, one a crate, by tools/crate_seconds.txt; proves nothing
+  make_program.py --place         where it makes the program; the folder may be removed while nothing is made
   make_program.py --root FOLDER --program NAME   another repository's program (for tests)
 
-PYLINT_MAKE_JOBS gives the number of processors to use, in place of all."""
+PLACE is a folder for this checkout below ~/.cache/pylint-proved, as `--place` tells: within the checkout `rt` would refuse the copies.
+PYLINT_MAKE_JOBS gives the number of processors to use, in place of all, PYLINT_MAKE_PLACE another PLACE."""
 import argparse
 import fcntl
 import hashlib
@@ -143,6 +145,14 @@ class Progress:
             print("\r\033[K", end="", file=sys.stderr, flush=True)
         if text:
             print(f"bin/pylint: {text}", file=sys.stderr, flush=True)
+
+
+def place_of(root):
+    """Where a checkout's program is made."""
+    if os.environ.get("PYLINT_MAKE_PLACE"):
+        return Path(os.environ["PYLINT_MAKE_PLACE"])
+    cache = os.environ.get("XDG_CACHE_HOME") or Path.home() / ".cache"
+    return Path(cache) / "pylint-proved" / f"{root.name}-{hashlib.sha256(str(root).encode()).hexdigest()[:12]}"
 
 
 def memory_free():
@@ -321,7 +331,7 @@ def make(root, program):
     if shutil.which("rt") is None:
         raise Stopped(CANT_BE_MADE, "the program is missing or older than its sources, and making it wants the Rattle kit's command rt on the PATH; "
                                     "a package of the made program wants no kit: see README.md")
-    place = root / "out" / "make"
+    place = place_of(root)
     place.mkdir(parents=True, exist_ok=True)
     waiting = Progress(None)
     lock = take_lock(place, waiting)
@@ -371,7 +381,11 @@ def main():
     parser.add_argument("--root", type=Path, default=Path(__file__).resolve().parent.parent)
     parser.add_argument("--program", default="pylint")
     parser.add_argument("--plan", type=int, metavar="N")
+    parser.add_argument("--place", action="store_true")
     arguments = parser.parse_args()
+    arguments.root = arguments.root.resolve()
+    if arguments.place:
+        return print(place_of(arguments.root))
     if arguments.plan:
         return plan(arguments.root, arguments.program, arguments.plan)
     for signum in (signal.SIGINT, signal.SIGTERM, signal.SIGHUP):

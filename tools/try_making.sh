@@ -25,7 +25,7 @@ echo logic=proved
 exit 32
 E2
 chmod +x "$work/stand_in/rt"
-export STAND_IN=$work PATH=$work/stand_in:$PATH PYLINT_MAKE_JOBS=2
+export STAND_IN=$work PATH=$work/stand_in:$PATH PYLINT_MAKE_JOBS=2 PYLINT_MAKE_PLACE=$work/place
 pylint=$work/repo/bin/pylint
 # Until the first call tells that it proves a crate, so that no time is guessed.
 until_told() { for _ in $(seq 300); do grep -q "at work: .*$1" "$work/err" 2>/dev/null && return; sleep 0.05; done; }
@@ -52,7 +52,7 @@ echo left2 >"$work/repo/crates/left/src/lib.rt"
 : >"$work/err"
 setsid "$pylint" a.py >"$work/out" 2>"$work/err" & call=$!
 until_told left; kill -INT -- "-$call"; wait "$call"; status=$?
-[ "$status" = 130 ] && [ ! -s "$work/out" ] && grep -q 'cut off' "$work/err" && flock -n "$work/repo/out/make/lock" true
+[ "$status" = 130 ] && [ ! -s "$work/out" ] && grep -q 'cut off' "$work/err" && flock -n "$work/place/lock" true
 say "an interrupt ends the call with 130, and nothing is left at work" $?
 : >"$work/begun"
 "$pylint" a.py >"$work/out" 2>"$work/err"
@@ -61,7 +61,7 @@ say "the next call takes up what was cut off" $?
 
 echo bad >"$work/repo/crates/right/src/lib.rt"
 "$pylint" a.py >"$work/out" 2>"$work/err"; status=$?
-[ "$status" = 71 ] && [ ! -s "$work/out" ] && grep -q "right is not proved, .*: see $work/repo/out/make/logs/right.log" "$work/err"
+[ "$status" = 71 ] && [ ! -s "$work/out" ] && grep -q "right is not proved, .*: see $work/place/logs/right.log" "$work/err"
 say "a crate that is not proved is named with its log, and the status is 71" $?
 
 echo right3 >"$work/repo/crates/right/src/lib.rt"
