@@ -244,7 +244,7 @@ class Tables:
     def __init__(self, source):
         self.tree = ast.parse(source)
         self.top = symtable.symtable(source, "t.py", "exec")
-        self.table_of, self.read_in, self.opener = {}, {}, {}
+        self.table_of, self.read_in, self.opener, self.stands = {}, {}, {}, {}
         self.waiting = {}
         self.enter(self.tree, self.top, None, self.tree.body)
 
@@ -272,6 +272,7 @@ class Tables:
         self.visit_all(args.defaults + args.kw_defaults + [a.annotation for a in every], table, private)
 
     def visit(self, n, table, private):
+        self.stands[id(n)] = table
         if isinstance(n, (ast.FunctionDef, ast.AsyncFunctionDef)):
             self.outside(n.args, table, private)
             self.visit_all([n.returns] + n.decorator_list, table, private)

@@ -1,0 +1,9 @@
+pub mod BindersRows
+pub mod DeletesRows
+pub mod ListsRows
+pub mod LocalsRows
+pub mod NamesRows
+pub mod PlacesRows
+pub mod ReadsRows
+pub mod ScopesRows
+pub mod StoresRows

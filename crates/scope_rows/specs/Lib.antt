@@ -1,0 +1,10 @@
+pub mod Binders
+pub mod Deletes
+pub mod Lists
+pub mod Locals
+pub mod Names
+pub mod Places
+pub mod Questions
+pub mod Reads
+pub mod Scopes
+pub mod Stores
