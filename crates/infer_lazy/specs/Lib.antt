@@ -1,4 +1,5 @@
 pub mod Pairs
+pub mod Waiting
 pub mod Reach
 pub mod Worklist
 pub mod Kept

@@ -3,6 +3,7 @@
 
 mod keep;
 mod pairs;
+mod waiting;
 mod worklist;
 
 pub use keep::keep_all;

@@ -10,9 +10,11 @@ ghost use Rattle.infer_reached.specs.InProgress.{InProgress, HasSet, weight};
 ghost use Rattle.infer_reached.specs.Extension.{extended, added_by, WasRead, AllLeast};
 ghost use Rattle.infer_lazy.specs.Reach.{IsCheap, Lacking, IsListed, AreSupported};
 ghost use Rattle.infer_lazy.specs.Pairs.{readers};
+ghost use Rattle.infer_lazy.specs.Waiting.{with_places};
 ghost use Rattle.infer_lazy.specs.Worklist.{with_pair, paired, Lazy, credit};
 
 use crate::pairs::Pairs;
+use crate::waiting::Waiting;
 use infer_equations::{Equations, Solved, Steps, Table};
 use infer_reached::{add_all, add_one, evaluate, raise};
 use infer_sets::AbsSet;
@@ -20,7 +22,7 @@ use lint_values::Memory;
 use std::alloc::Global;
 use std::sync::ledger::Ledger;
 
-fn pair_one(work: &Table, reader: u64, read: u64, pairs: &mut Pairs) -> Result<(), Memory>
+fn pair_one(work: &Table, reader: usize, read: u64, pairs: &mut Pairs) -> Result<(), Memory>
     ensures { OnOk result (pairs.new ≡ with_pair (map.get work.now read) reader read pairs.old) }
 {
     if work.find(read).is_some() {
@@ -30,21 +32,12 @@ fn pair_one(work: &Table, reader: u64, read: u64, pairs: &mut Pairs) -> Result<(
 }
 
 // Pairs the reader with each variable in progress that it read.
-fn pair_all(work: &Table, reader: u64, noted: &[u64], pairs: &mut Pairs) -> Result<(), Memory>
+fn pair_all(work: &Table, reader: usize, noted: &[u64], pairs: &mut Pairs) -> Result<(), Memory>
     ensures { OnOk result (pairs.new ≡ paired work.now reader noted.now pairs.old) }
 {
     for var in noted {
         pair_one(work, reader, *var, pairs)?;
     }
-    Ok(())
-}
-
-// The variables that were added wait.
-fn wait_for(run: &[u64], known: usize, pending: &mut Vec<u64>) -> Result<(), Memory>
-    requires { known ≤ length run.now }
-    ensures { OnOk result (pending.new.items ≡ pending.old.items ++ drop known run.now) }
-{
-    pending.extend_from_slice(run.split_at(known).1)?;
     Ok(())
 }
 
@@ -54,44 +47,46 @@ fn raise_and_wake(
     var: u64,
     set: AbsSet,
     pairs: &Pairs,
-    pending: &mut Vec<u64>,
+    waiting: &mut Waiting,
 ) -> Result<(), Memory>
     requires { IsSome (map.get work.old var) }
     ensures table { OnOk result (work.new ≡ (if is_below set (or_none (map.get work.old var)) then work.old else map.insert work.old var set)) }
-    ensures waits { OnOk result (pending.new.items ≡ (if is_below set (or_none (map.get work.old var)) then pending.old.items else pending.old.items ++ readers var pairs.now)) }
+    ensures waits { OnOk result (waiting.new ≡ (if is_below set (or_none (map.get work.old var)) then waiting.old else with_places waiting.old (readers var pairs.now))) }
 {
     let up = raise(work, var, set)?;
     if up {
-        pairs.wake(var, pending)?;
+        pairs.wake(var, waiting)?;
     }
     Ok(())
 }
 
-// One step: a variable that waits is evaluated.
+// One step: the variable at a place that waited is evaluated. What it read and no table had waits from then on, and who
+// read it where its set rose.
 fn step_one<E: Equations, L: Ledger>(
     alloc: Global,
     eqs: &E,
     base: &Solved,
     work: &mut Table,
     run: &mut Vec<u64>,
-    pending: &mut Vec<u64>,
+    waiting: &mut Waiting,
     pairs: &mut Pairs,
     start: u64,
-    var: u64,
+    place: usize,
     steps: &mut Steps<L>,
 ) -> Result<(), Memory>
-    requires { Lazy (E.count_of eqs.now) (E.limit_of eqs.now) (E.right eqs.now) (E.reads eqs.now) base.now work.old (start ∷ []) run.old.items (pending.old.items ++ var ∷ []) pairs.old }
+    requires { Lazy (E.count_of eqs.now) (E.limit_of eqs.now) (E.right eqs.now) (E.reads eqs.now) base.now work.old (start ∷ []) run.old.items (waiting.old ++ place ∷ []) pairs.old }
     ensures step { steps.new ≡ steps.old + 1 }
-    ensures lazy { OnOk result (Lazy (E.count_of eqs.now) (E.limit_of eqs.now) (E.right eqs.now) (E.reads eqs.now) base.now work.new (start ∷ []) run.new.items pending.new.items pairs.new) }
-    ensures cost { OnOk result (length pending.new.items + credit (E.limit_of eqs.now) (base.now, work.old) run.old.items pairs.old ≤ length pending.old.items + credit (E.limit_of eqs.now) (base.now, work.new) run.new.items pairs.new) }
+    ensures lazy { OnOk result (Lazy (E.count_of eqs.now) (E.limit_of eqs.now) (E.right eqs.now) (E.reads eqs.now) base.now work.new (start ∷ []) run.new.items waiting.new pairs.new) }
+    ensures cost { OnOk result (length waiting.new + credit (E.limit_of eqs.now) (base.now, work.old) run.old.items pairs.old ≤ length waiting.old + credit (E.limit_of eqs.now) (base.now, work.new) run.new.items pairs.new) }
     ensures keeps { OnOk result ((w : ℕ) → HasSet (base.now, work.old) w → HasSet (base.now, work.new) w) }
 {
+    let var = run[place];
     let known = run.len();
     let visit = evaluate(alloc, eqs, base, work, var, steps)?;
     add_all(alloc, base, work, run, &visit.noted)?;
-    wait_for(run, known, pending)?;
-    pair_all(work, var, &visit.noted, pairs)?;
-    raise_and_wake(work, var, visit.set, pairs, pending)?;
+    waiting.add_from(known, run.len())?;
+    pair_all(work, place, &visit.noted, pairs)?;
+    raise_and_wake(work, var, visit.set, pairs, waiting)?;
     Ok(())
 }
 
@@ -117,21 +112,21 @@ pub fn work_through<E: Equations, L: Ledger>(
     ensures cost_err { OnErr result (IsCheap (E.limit_of eqs.now) (least (E.count_of eqs.now) (E.limit_of eqs.now) (E.right eqs.now)) (E.reads eqs.now) (Lacking (least (E.count_of eqs.now) (E.limit_of eqs.now) (E.right eqs.now)) (E.reads eqs.now) base.now (start ∷ [])) steps.old steps.new) }
 {
     let mut run = Vec::new(alloc);
-    let mut pending = Vec::new(alloc);
+    let mut waiting = Waiting::new(alloc);
     let mut pairs = Pairs::new(alloc);
     add_one(alloc, base, work, &mut run, start)?;
-    pending.push(start)?;
-    while let Some(var) = pending.pop() {
+    waiting.add(0)?;
+    while let Some(place) = waiting.take() {
         step_one(
             alloc,
             eqs,
             base,
             work,
             &mut run,
-            &mut pending,
+            &mut waiting,
             &mut pairs,
             start,
-            var,
+            place,
             steps,
         )?;
     }
