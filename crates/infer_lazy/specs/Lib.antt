@@ -2,4 +2,3 @@ pub mod Pairs
 pub mod Waiting
 pub mod Reach
 pub mod Worklist
-pub mod Kept
