@@ -1,5 +1,5 @@
 -- Numbers while their list grows.
-use Rattle.std.proofs.Common.{◌≡◌, ℕ, zero, suc, ◌+◌, ◌<◌, ◌≤◌, Bool, true, false, cond, not, ◌&&◌, ◌||◌, ◌⊎◌, inl, inr, List, [], ◌∷◌, ◌++◌, length, get_or, take, refl, sym, ◌∙◌, ap, subst, arith, length-append, length-take}
+use Rattle.std.proofs.Common.{◌≡◌, ℕ, zero, suc, ◌+◌, ◌<◌, ◌≤◌, Bool, true, false, cond, not, ◌&&◌, ◌||◌, ◌⊎◌, inl, inr, List, [], ◌∷◌, ◌++◌, length, get_or, take, refl, sym, ◌∙◌, ap, subst, arith, length-append, length-take, append_assoc}
 use Rattle.std.specs.Prelude.{Option, Some, None, nat_lt}
 use Rattle.std.specs.List.{position, position_or_len}
 use Rattle.std.proofs.lemmas.List.Sums.{prefix_len-le-length, prefix_len_passes, prefix_len_stops}
@@ -9,6 +9,7 @@ use Rattle.std.proofs.lemmas.List.{get_or_append_left, append-nil, get_or-take, 
 use Rattle.std.proofs.Math.Seq.{take-length, take-append_seam}
 use Rattle.infer_sets.specs.Sets.{Set, none, is_below}
 use Rattle.infer_sets.proofs.SetOrder.{below-refl, below-antisym}
+use Rattle.infer_sets.specs.Laws.{AreKept}
 use Rattle.infer_sets.specs.Numbers.{set_at, IsNumber, AreApart, Grew, is_same, has_number, with_set}
 
 pub is_same-refl : (s : Set) → is_same s s ≡ true
@@ -54,6 +55,12 @@ is_number-grew xs ys id s g h = subst (λ zs. IsNumber zs id s) (sym g.is) (reco
 
 pub grew-refl : (xs : List Set) → Grew xs xs
 grew-refl xs = record { more = []; is = sym (append-nil xs) }
+
+pub grew-then : (xs ys zs : List Set) → Grew xs ys → Grew ys zs → Grew xs zs
+grew-then xs ys zs g h = record { more = g.more ++ h.more; is = h.is ∙ ap (λ ws. ws ++ h.more) g.is ∙ append_assoc xs g.more h.more }
+
+pub are-kept : AreKept
+are-kept = record { keeps = is_number-grew; itself = grew-refl; twice = grew-then }
 
 -- where no set is s, none of the places has it
 pub not_same : (xs : List Set) (s : Set) → has_number xs s ≡ false → (i : ℕ) → i < length xs → set_at xs i ≡ s → ⊥

@@ -99,9 +99,6 @@ pub get-behind : (xs ys : List Set) (n id : ℕ) (s : Set) → n ≡ length xs �
 unfolding set_at
 get-behind xs ys n id s e l h = h ∙ sym (get_or-append-add xs ys (id - n) none) ∙ ap (λ m. get_or (xs ++ ys) m none) (let k : length xs + (id - n) ≡ id = omega (arith, e) in k)
 
-pub apart-both : (xs ys zs : List Set) (s : Set) → ys ≡ with_set xs s → AreApart xs → AreApart ys
-apart-both xs ys zs s e a = subst AreApart (sym e) (apart-with_set xs s a)
-
 length_by : (xs : List Set) (s : Set) (b : Bool) → length (cond b xs (xs ++ s ∷ [])) ≤ length xs + 1
 length_by xs s true = omega arith
 length_by xs s false = let n = length-append xs (s ∷ []) in omega (arith, n)
@@ -170,9 +167,6 @@ number-joined xs ys limit a b id r s t g la lb es et er h =
 pub joined-right : (xs : List Set) (joins : Joins) (o : Option ℕ) (a b limit : ℕ) → AreJoined xs joins → o ≡ map.get joins (a, b, limit) → IfSome o (λ id. IsNumber xs id (joined limit (set_at xs a) (set_at xs b)))
 joined-right xs joins None a b limit j e = tt
 joined-right xs joins (Some id) a b limit j e = let h = j.at a b limit id (sym e) in h.2
-
-pub number-of_join : (ys : List Set) (limit id : ℕ) (r s t u v : Set) → s ≡ u → t ≡ v → r ≡ joined limit s t → IsNumber ys id r → IsNumber ys id (joined limit u v)
-number-of_join ys limit id r s t u v e f h n = subst (λ z. IsNumber ys id z) (h ∙ ap (λ z. joined limit z t) e ∙ ap (λ z. joined limit u z) f) n
 
 pub grew-asked : {F : Type 0} (bs os ns : List Set) (s : Set) (r : Result ℕ F) → IfOk r (λ id. (bs ++ ns ≡ with_set (bs ++ os) s) × IsNumber (bs ++ ns) id s) → OnErr r (ns ≡ os) → Grew (bs ++ os) (bs ++ ns)
 grew-asked bs os ns s (Ok id) ok err = with_set-grew_by (bs ++ os) (bs ++ ns) s ok.0

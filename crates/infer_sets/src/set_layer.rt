@@ -112,7 +112,7 @@ impl<'a> SetLayer<'a> {
         ensures err { OnErr result (self.new ≡ self.old) }
     {
         match self.joined(a, b, limit) {
-            Some(id) => Ok(id),
+            Some(remembered) => Ok(remembered),
             None => self.join_anew(a, b, limit),
         }
     }

@@ -4,7 +4,7 @@ use Rattle.infer_sets.proofs.Layers.{insert-old}
 use Rattle.infer_sets.proofs.set_layer.SetLayer.join.Goals as goal
 
 pub returns-in-Some-clause-ok : goal.returns-in-Some-clause-ok
-returns-in-Some-clause-ok c = numbered-old c.args.self.now.sets _ c.in-Some.id c.in-Some.ensures.right
+returns-in-Some-clause-ok c = numbered-old c.args.self.now.sets _ c.in-Some.remembered c.in-Some.ensures.right
 
 pub returns-in-Some-clause-joins : goal.returns-in-Some-clause-joins
-returns-in-Some-clause-joins c = insert-old c.args.self.now.joins (c.args.a, c.args.b, c.args.limit) c.in-Some.id (sym c.joined.ensures.value ∙ c.in-Some.is)
+returns-in-Some-clause-joins c = insert-old c.args.self.now.joins (c.args.a, c.args.b, c.args.limit) c.in-Some.remembered (sym c.joined.ensures.value ∙ c.in-Some.is)
