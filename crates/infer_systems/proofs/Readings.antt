@@ -1,12 +1,12 @@
 -- What the rules read, one reading after another.
-use Rattle.std.proofs.Common.{◌≡◌, ℕ, true, false, cond, [], ◌∷◌, IfOk, sym, subst}
+use Rattle.std.proofs.Common.{◌≡◌, ℕ, suc, ◌+◌, ◌%◌, true, false, cond, [], ◌∷◌, IfOk, sym, subst, arith}
 use Rattle.std.specs.Prelude.{Result}
 use Rattle.std.proofs.lemmas.Result.{IfOk-weaker}
 use Rattle.infer_sets.specs.Sets.{Set, none, joined, is_below}
 use Rattle.infer_equations.specs.Seen.{Seen}
 use Rattle.infer_equations.specs.Reading.{Reads}
 use Rattle.infer_equations.proofs.Reading.{reads-pure, reads-map, reads-then}
-use Rattle.infer_systems.specs.Rules.{with_reads, both_right, both_reads, gated, gated_reads, when_right, when_reads}
+use Rattle.infer_systems.specs.Rules.{with_reads, both_right, both_reads, gated, gated_reads, when_right, when_reads, row_right, row_reads}
 
 -- one reading
 abbrev pub ReadsOne : ℕ → Seen → Seen → Set → Type 0
@@ -37,3 +37,16 @@ module _ (limit : ℕ) where
       (subst (λ b. Reads (λ a. cond b none (joined limit (a second) none)) (λ a. cond b [] (second ∷ [])) v w x) (sym e)
       (subst (λ m. Reads (λ a. joined limit (a second) m) (λ _. with_reads second) v w x) is k)))
       ok
+
+  pub row-none : (count v : ℕ) (before : Seen) (s : Set) → s ≡ none → Reads (row_right count limit v 0) (row_reads count v 0) before before s
+  row-none count v before s e = subst (λ x. Reads (row_right count limit v 0) (row_reads count v 0) before before x) (sym e) (reads-pure none (row_reads count v 0) before)
+
+  pub row-more : (count v n w m : ℕ) → w ≡ (v % count + n) % count → m ≡ n + 1 → (before middle after : Seen) (s t x : Set) → Reads (row_right count limit v n) (row_reads count v n) before middle s → ReadsOne w middle after t → x ≡ joined limit s t
+      → Reads (row_right count limit v m) (row_reads count v m) before after x
+  row-more count v n w m we me before middle after s t x h k is =
+      let one : ReadsOne ((v % count + n) % count) middle after t = subst (λ z. ReadsOne z middle after t) we k in
+      let more : m ≡ suc n = omega arith in
+      subst (λ y. Reads (row_right count limit v m) (row_reads count v m) before after y) (sym is)
+      (subst (λ k. Reads (row_right count limit v k) (row_reads count v k) before after (joined limit s t)) (sym more)
+      (reads-then (row_right count limit v n) (λ s a. joined limit s (a ((v % count + n) % count))) (row_reads count v n) (λ _ _. (v % count + n) % count ∷ []) before middle after s (joined limit s t) h
+      (reads-map (λ t. joined limit s t) (λ a. a ((v % count + n) % count)) (λ _. (v % count + n) % count ∷ []) middle after t one)))

@@ -1,9 +1,9 @@
 // Equations given by a list of rules.
-ghost use Rattle.std.specs.Prelude.{◌≡◌, ℕ, ◌<◌, ◌%◌, IfOk, length, Some};
+ghost use Rattle.std.specs.Prelude.{◌≡◌, ℕ, ◌<◌, ◌^◌, ◌%◌, IfOk, length, Some};
 ghost use Rattle.std.specs.FinSet as set;
 ghost use Rattle.infer_sets.specs.Sets.{joined, Set};
 ghost use Rattle.infer_equations.specs.Reading.{Reads};
-ghost use Rattle.infer_systems.specs.Rules.{value_of, with_reads, both_right, both_reads, when_right, when_reads, rule_right, rule_reads, rule_at, no_reads};
+ghost use Rattle.infer_systems.specs.Rules.{value_of, with_reads, both_right, both_reads, when_right, when_reads, rule_right, rule_reads, rule_at, no_reads, row_right, row_reads};
 
 use crate::rule::Rule;
 use infer_core::{Equations, Steps, View};
@@ -75,6 +75,29 @@ fn when(
     with(alloc, limit, second, &none, view)
 }
 
+// The sets of several variables together, from one on.
+fn row(
+    alloc: Global,
+    limit: u32,
+    count: u64,
+    first: u64,
+    many: u32,
+    view: &mut View,
+) -> Result<AbsSet, Memory>
+    requires some { 0 < count }
+    requires count { count < 2 ^ 63 }
+    ensures kept { view.new.sets ≡ view.old.sets }
+    ensures reads { IfOk result (λ s. Reads (row_right count limit first many) (row_reads count first many) view.old view.new s) }
+{
+    let start = first % count;
+    let mut set = AbsSet::empty(alloc);
+    for place in 0..many {
+        let more = view.get((start + place as u64) % count)?;
+        set = set.join(alloc, more, limit)?;
+    }
+    Ok(set)
+}
+
 // A set that needs no reading.
 fn constant(alloc: Global, limit: u32, number: u32) -> Result<AbsSet, Memory>
     ensures { IfOk result (λ s. s ≡ joined limit (value_of number) (value_of number)) }
@@ -91,7 +114,8 @@ fn right_side(
     rule: Rule,
     view: &mut View,
 ) -> Result<AbsSet, Memory>
-    requires { 0 < count }
+    requires some { 0 < count }
+    requires count { count < 2 ^ 63 }
     ensures kept { view.new.sets ≡ view.old.sets }
     ensures reads { IfOk result (λ s. Reads (rule_right count limit rule) (rule_reads count rule) view.old view.new s) }
 {
@@ -103,6 +127,7 @@ fn right_side(
         Rule::More(var, number) => with(alloc, limit, var % count, &one(alloc, number)?, view),
         Rule::Both(first, second) => both(alloc, limit, first % count, second % count, view),
         Rule::When(first, second) => when(alloc, limit, first % count, second % count, view),
+        Rule::Row(first, many) => row(alloc, limit, count, first, many, view),
     }
 }
 

@@ -21,3 +21,7 @@ returns-in-Both-clause-reads c =
 pub returns-in-When-clause-reads : goal.returns-in-When-clause-reads
 returns-in-When-clause-reads c =
     subst (λ r. IfOk c.when.result (λ s. Reads (rule_right c.args.count c.args.limit r) (rule_reads c.args.count r) c.args.view.now c.when.new.view s)) (sym c.in-When.is) c.when.ensures.reads
+
+pub returns-in-Row-clause-reads : goal.returns-in-Row-clause-reads
+returns-in-Row-clause-reads c =
+    subst (λ r. IfOk c.row.result (λ s. Reads (rule_right c.args.count c.args.limit r) (rule_reads c.args.count r) c.args.view.now c.row.new.view s)) (sym c.in-Row.is) c.row.ensures.reads
