@@ -43,7 +43,7 @@ module _ (limit : ℕ) where
   shut first second u v w a none' ids h e is ok =
       IfOk-weaker ids (λ id. Gives (λ _. none') (λ _. []) v w id) _ (λ id k.
       let here : Reads (λ z. gated limit second h.set z) (λ z. gated_reads second h.set z) v w k.set =
-          subst (λ b. Reads (λ z. cond b none (joined limit (z second) none)) (λ z. cond b [] (second ∷ [])) v w k.set) (sym e) (subst (λ s. Reads (λ _. s) (λ _. []) v w k.set) is k.reads) in
+      subst (λ b. Reads (λ z. cond b none (joined limit (z second) none)) (λ z. cond b [] (second ∷ [])) v w k.set) (sym e) (subst (λ s. Reads (λ _. s) (λ _. []) v w k.set) is k.reads) in
       record { set = k.set; numbered = k.numbered; reads = reads-then (λ z. z first) (λ s z. gated limit second s z) (λ _. first ∷ []) (λ s z. gated_reads second s z) u v w h.set k.set h.reads here })
       ok
 
@@ -52,7 +52,7 @@ module _ (limit : ℕ) where
   open_by first second u v w a more ids h e is ok =
       IfOk-weaker ids (λ id. Gives (λ z. joined limit (z second) more) (λ _. with_reads second) v w id) _ (λ id k.
       let here : Reads (λ z. gated limit second h.set z) (λ z. gated_reads second h.set z) v w k.set =
-          subst (λ b. Reads (λ z. cond b none (joined limit (z second) none)) (λ z. cond b [] (second ∷ [])) v w k.set) (sym e) (subst (λ m. Reads (λ z. joined limit (z second) m) (λ _. with_reads second) v w k.set) is k.reads) in
+      subst (λ b. Reads (λ z. cond b none (joined limit (z second) none)) (λ z. cond b [] (second ∷ [])) v w k.set) (sym e) (subst (λ m. Reads (λ z. joined limit (z second) m) (λ _. with_reads second) v w k.set) is k.reads) in
       record { set = k.set; numbered = k.numbered; reads = reads-then (λ z. z first) (λ s z. gated limit second s z) (λ _. first ∷ []) (λ s z. gated_reads second s z) u v w h.set k.set h.reads here })
       ok
 
