@@ -9,8 +9,8 @@ const MOST: u64 = 10000000;
 
 const WIDEST: u64 = 1000;
 
-/// The system with this many variables, ten million at most: a ring, a fan or readers of the same variables under the
-/// limit 100, or else layers under the limit 8.
+/// The system with this many variables, ten million at most: a ring, a fan, readers of the same variables or many variables
+/// with one set under the limit 100, or else layers under the limit 8.
 pub fn system_of(alloc: Global, shape: &str, size: u64) -> Result<System, Memory> {
     let size = size.min(MOST);
     if shape == "ring" {
@@ -21,6 +21,9 @@ pub fn system_of(alloc: Global, shape: &str, size: u64) -> Result<System, Memory
     }
     if shape == "readers" {
         return readers(alloc, size, size / 11);
+    }
+    if shape == "shared" {
+        return shared(alloc, size);
     }
     layers(alloc, size)
 }
@@ -95,5 +98,22 @@ fn readers(alloc: Global, size: u64, many: u64) -> Result<System, Memory>
     for number in 0..rest {
         rules.push(Rule::Value(number % 12))?;
     }
+    Ok(System { rules, limit: 100 })
+}
+
+// The last fifty variables are a chain in which each adds one value to the next one's set. All others take the set of fifty
+// values of its first.
+fn shared(alloc: Global, size: u64) -> Result<System, Memory>
+    requires { size ≤ 10000000 }
+{
+    let first = size.saturating_sub(50);
+    let mut rules = Vec::new(alloc);
+    for _ in 0..first {
+        rules.push(Rule::Copy(first))?;
+    }
+    for var in first..size.saturating_sub(1) {
+        rules.push(Rule::More(var + 1, (size - var) as u32))?;
+    }
+    rules.push(Rule::Value(1))?;
     Ok(System { rules, limit: 100 })
 }
