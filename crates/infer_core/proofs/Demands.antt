@@ -245,3 +245,26 @@ known_least count limit right base own v s r q e = either_right (get base v) (ge
 pub known_if : (count limit : ℕ) (right : ℕ → Assignment → Set) (base own : Map) (v : ℕ) (r : Option (Bor Set)) → IsRight count limit right base → IsRight count limit right own → option_copied r ≡ get (overlaid base own) v → IfSome r (λ s. s.now ≡ least count limit right v)
 known_if count limit right base own v None h k e = tt
 known_if count limit right base own v (Some s) h k e = known_least count limit right base own v s.now h k e
+
+-- the same tables by other names
+pub solving_same : (count limit : ℕ) (right : ℕ → Assignment → Set) (base own base' own' : Map) → base' ≡ base → own' ≡ own → IsSolving count limit right base own → IsSolving count limit right base' own'
+solving_same count limit right base own base' own' be oe h = subst (λ (p : Map × Map). IsSolving count limit right p.0 p.1) (λ i. (sym be i, sym oe i)) h
+
+pub demanded_base : {E T F : Type 0} (limit : ℕ) (solution : Assignment) (reads : ℕ → Assignment → List ℕ) (old : Solving E) (e : E) (base base' own : Map) (start before after : ℕ) (r : Result T F) → base' ≡ base
+    → IsDemanded limit solution reads old (record { equations = e; base = base; solved = own }) start before after r → IsDemanded limit solution reads old (record { equations = e; base = base'; solved = own }) start before after r
+demanded_base limit solution reads old e base base' own start before after r be h = subst (λ (m : Map). IsDemanded limit solution reads old (record { equations = e; base = m; solved = own }) start before after r) (sym be) h
+
+pub demanded_same : {E T F : Type 0} (count limit : ℕ) (right : ℕ → Assignment → Set) (reads : ℕ → Assignment → List ℕ) (e : E) (x : F) (base own base' own' b : Map) (start before after : ℕ) → base' ≡ base → own' ≡ own
+    → b ≡ overlaid base own → get (overlaid base own) start ≡ None → IsCheap limit (least count limit right) reads (Lacking (least count limit right) reads b (start ∷ [])) before after
+    → IsDemanded {T = T} limit (least count limit right) reads (record { equations = e; base = base; solved = own }) (record { equations = e; base = base'; solved = own' }) start before after (Err x)
+demanded_same {T = T} count limit right reads e x base own base' own' b start before after be oe is missing c =
+    subst (λ (p : Map × Map). IsDemanded {T = T} limit (least count limit right) reads (record { equations = e; base = base; solved = own }) (record { equations = e; base = p.0; solved = p.1 }) start before after (Err x)) (λ i. (sym be i, sym oe i))
+    (demanded_err count limit right reads e x base own b start before after is missing c)
+
+pub ok_from : {T F : Type 0} (r : Result T F) (new own own' work : Map) → own' ≡ own → OnOk r (new ≡ overlaid own' work) → OnOk r (new ≡ overlaid own work)
+ok_from (Ok x) new own own' work e h = h ∙ ap (λ m. overlaid m work) e
+ok_from (Err x) new own own' work e h = tt
+
+pub err_from : {T F : Type 0} (r : Result T F) (new own own' : Map) → own' ≡ own → OnErr r (new ≡ own') → OnErr r (new ≡ own)
+err_from (Ok x) new own own' e h = tt
+err_from (Err x) new own own' e h = h ∙ e

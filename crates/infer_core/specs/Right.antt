@@ -5,7 +5,7 @@ use Rattle.std.specs.Coded.{Coded, code_by, coded×, coded_ℕ}
 use base.Stored.{Coded-set}
 use Rattle.infer_sets.specs.Sets.{Set, set_code}
 use Rattle.infer_equations.specs.Assignment.{Assignment, Map}
-use Rattle.infer_equations.specs.Seen.{map_code}
+use Rattle.infer_equations.specs.Valued.{map_code}
 use Rattle.infer_equations.specs.Least.{least}
 
 -- solved sets by variable, and how many variables were solved again when they were merged

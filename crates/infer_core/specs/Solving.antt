@@ -4,7 +4,7 @@ use Rattle.std.specs.FinMap as map
 use Rattle.std.specs.Coded.{Coded, code_by, coded×}
 use Rattle.infer_sets.specs.Sets.{Set}
 use Rattle.infer_equations.specs.Assignment.{Assignment, Map}
-use Rattle.infer_equations.specs.Seen.{map_code}
+use Rattle.infer_equations.specs.Valued.{map_code}
 use Rattle.infer_equations.specs.Least.{least}
 use Rattle.infer_lazy.specs.Reach.{AreSupported}
 use Rattle.infer_core.specs.Right.{IsRight}

@@ -8,13 +8,12 @@ ghost use Rattle.infer_core.specs.Merge.{merged};
 
 use crate::overlay::Overlay;
 use infer_equations::Table;
-use infer_lazy::keep_all;
 use infer_sets::AbsSet;
 use lint_values::Memory;
 use std::alloc::Global;
 use std::marker::Model;
 
-/// A table of solved sets, on which solvers stand, and which grows by `merge` alone. Contracts see the finite map from
+/// A table of solved sets, on which solvers stand, and which grows by `merge` alone. Equal sets are kept once. Contracts see the finite map from
 /// variables to sets, and how many variables were solved again. It is right for equations where each of its sets is that
 /// of their least solution.
 #[derive(Debug, Drop)]
@@ -47,18 +46,19 @@ impl Frozen {
         }
     }
 
-    /// Takes over what a solver solved. Where both have a variable, the old set stays, and it counts as solved again.
+    /// Takes over what a solver solved, and numbers its sets anew. Where both have a variable, the old set stays, and it
+    /// counts as solved again.
     /// Where memory runs out the table is as before, and the overlay is given up.
     pub fn merge(&mut self, overlay: Overlay) -> Result<(), Memory>
         ensures ok { OnOk result (self.new ≡ merged self.old overlay) }
         ensures err { OnErr result (self.new ≡ self.old) }
         ensures right { (count limit : ℕ) (right : ℕ → (ℕ → Set) → Set) → IsRight count limit right self.old.sets → IsRight count limit right overlay → IsRight count limit right self.new.sets }
     {
-        let mut overlay = overlay.into_table();
-        let variables = overlay.variables(self.alloc)?;
+        let solved = overlay.table();
+        let variables = solved.variables(self.alloc)?;
         let missing = missing_of(self.alloc, &self.table, &variables)?;
         let shared = (variables.len() - missing.len()) as u64;
-        keep_all(&mut self.table, &mut overlay, &missing)?;
+        self.table.take_over(self.alloc, solved, &missing)?;
         self.again = self.again.saturating_add(shared);
         Ok(())
     }

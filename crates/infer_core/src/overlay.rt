@@ -4,8 +4,9 @@ ghost use Rattle.std.specs.Prelude.{◌≡◌};
 use infer_equations::Table;
 use std::marker::Model;
 
-/// The sets that a solver solved, by variable, which a frozen table takes over by `Frozen::merge`. Contracts see the
-/// finite map from variables to sets. It is made by `Solver::finish` alone.
+/// The sets that a solver solved, by variable, which a frozen table takes over by `Frozen::merge`. Equal sets are kept once,
+/// in a table of the overlay's own, so it borrows nothing. Contracts see the finite map from variables to sets. It is made
+/// by `Solver::finish` alone.
 #[derive(Debug, Drop)]
 pub struct Overlay {
     table: Table,
@@ -13,7 +14,7 @@ pub struct Overlay {
 
 impl Model for Overlay {
     ghost use Rattle.infer_equations.specs.Assignment.{Map};
-    ghost use Rattle.infer_equations.specs.Seen.{map_code};
+    ghost use Rattle.infer_equations.specs.Valued.{map_code};
 
     ghost Value = { Map };
 
@@ -29,9 +30,9 @@ impl Overlay {
         Overlay { table }
     }
 
-    pub(crate) fn into_table(self) -> Table
-        ensures { result ≡ self }
+    pub(crate) fn table(&self) -> &Table
+        ensures { result.now ≡ self.now }
     {
-        self.table
+        &self.table
     }
 }

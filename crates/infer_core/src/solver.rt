@@ -10,8 +10,8 @@ ghost use Rattle.infer_core.specs.Demand.{IsDemanded};
 
 use crate::frozen::Frozen;
 use crate::overlay::Overlay;
-use infer_equations::{Equations, Solved, Steps, Table};
-use infer_lazy::{keep_all, work_through};
+use infer_equations::{Equations, Steps, View};
+use infer_lazy::work_through;
 use infer_sets::AbsSet;
 use lint_values::Memory;
 use std::alloc::Global;
@@ -19,13 +19,12 @@ use std::marker::Model;
 use std::sync::ledger::Ledger;
 
 /// A solver of equations, over a frozen table that is right for them. It keeps the sets that it solved in a table of its
-/// own. Contracts see its equations, the sets of the frozen table, and those that it solved.
+/// own, by the numbers of a layer over the frozen table's sets. Contracts see its equations, the sets of the frozen table, and those that it solved.
 #[derive(Drop)]
 pub struct Solver<'a, E: Equations> {
     alloc: Global,
     eqs: &'a E,
-    base: &'a Frozen,
-    own: Table,
+    view: View<'a>,
 }
 
 impl<'a, E: Equations> Model for Solver<'a, E> {
@@ -35,9 +34,9 @@ impl<'a, E: Equations> Model for Solver<'a, E> {
 
     ghost coded = { solving_code E.code };
 
-    ghost view = { λ s. record { equations = s.eqs.now; base = s.base.now.sets; solved = s.own } };
+    ghost view = { λ s. record { equations = s.eqs.now; base = s.view.base; solved = s.view.own } };
 
-    ghost invariant = { λ s. IsSolving (E.count_of s.eqs.now) (E.limit_of s.eqs.now) (E.right s.eqs.now) s.base.now.sets s.own };
+    ghost invariant = { λ s. IsSolving (E.count_of s.eqs.now) (E.limit_of s.eqs.now) (E.right s.eqs.now) s.view.base s.view.own };
 }
 
 impl<'a, E: Equations> Solver<'a, E> {
@@ -49,28 +48,27 @@ impl<'a, E: Equations> Solver<'a, E> {
         Solver {
             alloc,
             eqs,
-            base,
-            own: Table::new(alloc),
+            view: View::over(alloc, base.table()),
         }
     }
 
     /// Hands out what the solver solved, whole. Each of its sets is that of the least solution, its variables are none of
     /// the frozen table, and each rests on some variables of the two: its right side is its set wherever an assignment
-    /// agrees with the least solution on these.
+    /// agrees with the least solution on these. The sets are copied, each once.
     pub fn finish(self) -> Result<Overlay, Memory>
         ensures whole { IfOk result (λ o. o ≡ self.entry.solved) }
         ensures right { IfOk result (λ o. IsRight (E.count_of self.entry.equations) (E.limit_of self.entry.equations) (E.right self.entry.equations) o) }
         ensures apart { IfOk result (λ o. AreApart self.entry.base o) }
         ensures rests { IfOk result (λ o. AreSupported (least (E.count_of self.entry.equations) (E.limit_of self.entry.equations) (E.right self.entry.equations)) (E.right self.entry.equations) self.entry.base o) }
     {
-        Ok(Overlay::new(self.own))
+        Ok(Overlay::new(self.view.into_table()?))
     }
 
     fn known(&self, var: u64) -> Option<&AbsSet>
         ensures found { option_copied result ≡ map.get (overlaid self.now.base self.now.solved) var }
         ensures least { IfSome result (λ s. s.now ≡ least (E.count_of self.now.equations) (E.limit_of self.now.equations) (E.right self.now.equations) var) }
     {
-        Solved::new(self.base.table(), &self.own).find(var)
+        self.view.solved(var)
     }
 
     // Solves a variable that no table has.
@@ -79,11 +77,10 @@ impl<'a, E: Equations> Solver<'a, E> {
         requires missing { map.get (overlaid self.old.base self.old.solved) var ≡ None }
         ensures { IsDemanded (E.limit_of self.old.equations) (least (E.count_of self.old.equations) (E.limit_of self.old.equations) (E.right self.old.equations)) (E.reads self.old.equations) self.old self.new var steps.old steps.new result }
     {
-        let mut work = Table::new(self.alloc);
-        let base = Solved::new(self.base.table(), &self.own);
-        match work_through(self.alloc, self.eqs, &base, &mut work, var, steps) {
+        self.view.give_up();
+        match work_through(self.alloc, self.eqs, &mut self.view, var, steps) {
             Err(refused) => Err(refused),
-            Ok(reached) => keep_all(&mut self.own, &mut work, &reached),
+            Ok(reached) => self.view.settle(&reached),
         }
     }
 

@@ -3,11 +3,12 @@ ghost use Rattle.std.specs.Prelude.{◌≡◌, ℕ, ◌+◌, ◌<◌, List, IfOk
 ghost use Rattle.std.specs.List.{All};
 ghost use Rattle.infer_sets.specs.Sets.{Set, Below, Fits};
 ghost use Rattle.infer_equations.specs.Assignment.{Within, AllFit};
-ghost use Rattle.infer_equations.specs.Reading.{Reads};
+ghost use Rattle.infer_equations.specs.Reading.{Gives};
+ghost use Rattle.infer_equations.specs.Seen.{Stays};
 
 use crate::steps::Steps;
 use crate::view::View;
-use infer_sets::AbsSet;
+use infer_sets::SetId;
 use lint_values::Memory;
 use std::alloc::Global;
 use std::sync::ledger::Ledger;
@@ -34,18 +35,19 @@ pub trait Equations {
     fn var_count(&self) -> u64
         ensures { result ≡ count_of self.now };
 
-    /// The right side of a variable under the view's assignment. It takes sets from the view alone, and counts one step.
+    /// The number of the right side of a variable under the view's assignment. It takes sets from the view alone, and
+    /// counts one step.
     fn eval<L: Ledger>(
         &self,
         alloc: Global,
         var: u64,
         view: &mut View,
         steps: &mut Steps<L>,
-    ) -> Result<AbsSet, Memory>
+    ) -> Result<SetId, Memory>
         requires { var < count_of self.now }
         ensures step { steps.new ≡ steps.old + 1 }
-        ensures kept { view.new.sets ≡ view.old.sets }
-        ensures reads { IfOk result (λ s. Reads (right self.now var) (reads self.now var) view.old view.new s) };
+        ensures stays { Stays view.old view.new }
+        ensures gives { IfOk result (λ id. Gives (right self.now var) (reads self.now var) view.old view.new id) };
 
     // A greater assignment gives a greater right side.
     ghost monotone: { (e : Self) (v : ℕ) (a b : ℕ → Set) → v < count_of e → Within a b → Below (right e v a) (right e v b) };

@@ -7,10 +7,10 @@ use Rattle.std.proofs.lemmas.List.Sums.{sum_by-cons}
 use Rattle.std.proofs.lemmas.Map.Keys.{IsDistinct-from_sorted}
 use Rattle.std.proofs.lemmas.Map.Made.{length-le_from_is_member}
 use Rattle.std.proofs.lemmas.Map.Views.{Contains-from_any, list_any-from_Contains, tells_apart}
-use Rattle.std.specs.Prelude.{◌==◌, IsSome, Option, Some, None}
-use Rattle.std.specs.List.{All, Contains, filter, sum_by}
+use Rattle.std.specs.Prelude.{◌==◌, IsSome, Option, Some, None, nat_eq, slice_index}
+use Rattle.std.specs.List.{All, Contains, IsDistinct, filter, sum_by}
 use Rattle.std.specs.List.Sorted.{IsStrictlySortedBy}
-use Rattle.std.specs.Ordering.{nat_cmp, eq_by_cmp, ordering_then}
+use Rattle.std.specs.Ordering.{nat_cmp, ordering_then}
 use Rattle.std.specs.Cmp.{IsTotalOrder, nat_cmp_total, then_total, on_total, eq_by_cmp_equiv}
 use Rattle.std.specs.FinMap.{get, nat_cmp-IsAntisymmetric}
 use Rattle.std.specs.declared.cmp.Ordering.{Ordering}
@@ -23,6 +23,7 @@ use Rattle.infer_reached.proofs.Progress.{test_same, test_itself}
 use Rattle.infer_lazy.specs.Pairs.{pair_cmp, readers}
 use Rattle.infer_lazy.specs.Worklist.{with_pair, paired}
 use Rattle.infer_lazy.proofs.Members.{head-in, tail-in, cons-cases, nothing-in, map-in}
+use Rattle.infer_lazy.proofs.Places.{place_of, place-at}
 use Rattle.infer_lazy.proofs.Added.{add-keeps, add-new, add-sums, add-has, add-ordered}
 
 -- pairs are in a total order, and only a pair itself ties with it
@@ -164,16 +165,16 @@ paired-all o v (w ∷ ws) ps =
       ordered = λ h. rest.ordered (one.ordered h);
     }
 
-abbrev turned : ℕ × ℕ → ℕ × ℕ
-turned p = (p.1, p.0)
+abbrev turned : List ℕ → ℕ × ℕ → ℕ × ℕ
+turned run p = (p.1, place_of run p.0)
 
-same : ℕ × ℕ → ℕ × ℕ → Bool
-same = eq_by_cmp pair_cmp
-
--- pairs that ascend are no more than those of a list that has each of them, the reader first
-pub few-pairs : (ps qs : List (ℕ × ℕ)) → IsStrictlySortedBy pair_cmp ps → ((v w : ℕ) → Contains ps (w, v) → Contains qs (v, w)) → length ps ≤ length qs
-few-pairs ps qs h all =
+-- pairs that ascend are no more than those of a list that has each of them, its reader first
+pub few-pairs : (run : List ℕ) (ps qs : List (ℕ × ℕ)) → IsDistinct nat_eq run → IsStrictlySortedBy pair_cmp ps → ((i w : ℕ) → Contains ps (w, i) → (i < length run) × Contains qs (slice_index run i, w)) → length ps ≤ length qs
+few-pairs run ps qs d h all =
     let laws = eq_by_cmp_equiv pair_cmp_total in
-    let le = length-le_from_is_member laws ps (map turned qs) (IsDistinct-from_sorted pair_cmp ps h)
-    (λ q m. list_any-from_Contains laws q (map turned qs) (map-in turned (q.1, q.0) qs (all q.1 q.0 (Contains-from_any (tells_apart pair_cmp-exact) q ps m)))) in
-    subst (λ n. length ps ≤ n) (length-map qs turned) le
+    let at : (i w : ℕ) → Contains ps (w, i) → Contains (map (turned run) qs) (w, i) = λ i w c.
+    let g = all i w c in
+    subst (λ k. Contains (map (turned run) qs) (w, k)) (place-at run d i g.0) (map-in (turned run) (slice_index run i, w) qs g.1) in
+    let le = length-le_from_is_member laws ps (map (turned run) qs) (IsDistinct-from_sorted pair_cmp ps h)
+    (λ q m. list_any-from_Contains laws q (map (turned run) qs) (at q.1 q.0 (Contains-from_any (tells_apart pair_cmp-exact) q ps m))) in
+    subst (λ n. length ps ≤ n) (length-map qs (turned run)) le

@@ -1,10 +1,10 @@
 -- A step of the worklist.
-use Rattle.std.proofs.Common.{◌≡◌, ℕ, zero, suc, ◌+◌, ◌*◌, ◌<◌, ◌≤◌, Bool, true, false, cond, ◌⊎◌, inl, inr, List, [], ◌∷◌, ◌++◌, length, drop, refl, sym, ◌∙◌, ap, subst, arith, length-append}
+use Rattle.std.proofs.Common.{◌≡◌, ℕ, zero, suc, ◌+◌, ◌-◌, ◌*◌, ◌<◌, ◌≤◌, Bool, true, false, cond, ◌⊎◌, inl, inr, List, [], ◌∷◌, ◌++◌, length, refl, sym, ◌∙◌, ap, subst, arith, length-append}
 use Rattle.std.proofs.lemmas.Bool.Decides.{nat_tests}
 use Rattle.std.proofs.lemmas.List.Elements.{Contains-append_left, Contains-append_right, Contains-append_cases, Contains-push, Contains-push_cases, All-contains}
 use Rattle.std.proofs.lemmas.Map.Keys.{IsDistinct-push, IsDistinct-from_apart}
 use Rattle.std.proofs.lemmas.Map.Made.{length-le_from_is_member}
-use Rattle.std.specs.Prelude.{IsSome, Result, Ok, Err, OnErr, Option, Some, None, ◌==◌, nat_eq}
+use Rattle.std.specs.Prelude.{IsSome, Result, Ok, Err, OnErr, Option, Some, None, ◌==◌, nat_eq, slice_index, slice_index_or}
 use Rattle.std.specs.List.{All, Contains, IsDistinct, sum_by}
 use Rattle.std.specs.Cmp.{nat_eq_equiv}
 use Rattle.std.specs.FinMap.{insert, get, empty}
@@ -18,8 +18,10 @@ use Rattle.infer_reached.specs.InProgress.{HasSet, InProgress}
 use Rattle.infer_reached.specs.Extension.{extended, added_by, WasRead, AllLeast}
 use Rattle.infer_lazy.specs.Reach.{Dep, Reach, start, on, IsCheap, Lacking, IsListed, IsSupported, AreSupported}
 use Rattle.infer_lazy.specs.Pairs.{pair_cmp, readers}
+use Rattle.infer_lazy.specs.Waiting.{with_places, places}
 use Rattle.infer_lazy.specs.Worklist.{paired, Known, Lazy, credit}
 use Rattle.infer_lazy.proofs.Members.{head-in, tail-in, cons-cases, any_from}
+use Rattle.infer_lazy.proofs.Places.{Waits, waits-more, places-has, places-in, length-places, in-at, at-in, at-front, at-any, at-apart}
 use Rattle.infer_lazy.proofs.Readers.{Paired, paired-all, readers-has, readers-in, readers-cost, sum-most, few-pairs}
 use Rattle.std.specs.List.Sorted.{IsStrictlySortedBy}
 use Rattle.infer_equations.proofs.Rounds.{Monotone, Limited, below-eq, least-fits}
@@ -46,43 +48,59 @@ reads_it v (k ∷ ks) = reads_by v k ks (k == v) refl (reads_it v ks)
 apart_from : (u v : ℕ) → (u == v) ≡ false → u ≡ v → ⊥
 apart_from u v e is = let t : (u == v) ≡ true = ap (λ x. x == v) is ∙ test_itself v in cc
 
+low_or_high : (i n : ℕ) → (i < n) ⊎ (n ≤ i)
+low_or_high zero zero = inr (omega arith)
+low_or_high zero (suc n) = inl (omega arith)
+low_or_high (suc i) zero = inr (omega arith)
+low_or_high (suc i) (suc n) = elim (low_or_high i n) [ inl l ↦ inl (omega arith) | inr l ↦ inr (omega arith) ]
+
 module _ (count limit : ℕ) (right : ℕ → Assignment → Set) (reads : ℕ → Assignment → List ℕ) (mono : Monotone count right) (fits : Limited count limit right) (b : Map) (starts : List ℕ) where
   -- the facts after a step: the variable has the set s, the others theirs, and who reads it waits, or it had that set before
-  pub record After (o : Map) (run rest : List ℕ) (v : ℕ) (s : Set) (q : Map × List ℕ) (qs : List (ℕ × ℕ)) (o' : Map) (waits : List ℕ) (more : List ℕ) : Type 0 where
+  pub record After (o : Map) (run rest : List ℕ) (v : ℕ) (s : Set) (q : Map × List ℕ) (qs : List (ℕ × ℕ)) (o' : Map) (waits : List ℕ) : Type 0 where
     pub progress : InProgress count limit right (b, o') q.1
     pub itself : assigned (b, o') v ≡ s
     pub others : (z : ℕ) → (z ≡ v → ⊥) → assigned (b, o') z ≡ assigned (b, o) z
     pub keeps : (z : ℕ) → HasSet (b, q.0) z → HasSet (b, o') z
-    pub told : (assigned (b, o) v ≡ s) ⊎ ((u : ℕ) → Contains (readers v qs) u → Contains waits u)
-    pub rest_waits : (u : ℕ) → Contains rest u → Contains waits u
-    pub more_waits : (u : ℕ) → Contains more u → Contains waits u
-    pub waiting : (u : ℕ) → Contains waits u → Contains rest u ⊎ Contains more u ⊎ Contains (readers v qs) u
+    pub told : (assigned (b, o) v ≡ s) ⊎ ((i : ℕ) → Contains (readers v qs) i → Contains waits i)
+    pub rest_waits : (i : ℕ) → Contains rest i → Contains waits i
+    pub more_waits : (i : ℕ) → length run ≤ i → i < length q.1 → Contains waits i
+    pub waiting : (i : ℕ) → Contains waits i → Contains rest i ⊎ (i < length q.1) ⊎ Contains (readers v qs) i
 
-  module _ (o : Map) (run rest : List ℕ) (v : ℕ) (pairs : List (ℕ × ℕ)) (h : Lazy count limit right reads b o starts run (rest ++ v ∷ []) pairs)
+  module _ (o : Map) (run rest : List ℕ) (p : ℕ) (pairs : List (ℕ × ℕ)) (h : Lazy count limit right reads b o starts run (rest ++ p ∷ []) pairs)
+      (v : ℕ) (ve : slice_index run p ≡ v)
       (s : Set) (noted : List ℕ) (r : WasRead (right v) (reads v) (b, o) noted s)
       (q : Map × List ℕ) (w : Extends count limit right mono fits b (o, run) noted q)
-      (qs : List (ℕ × ℕ)) (ps : Paired q.0 v noted pairs qs)
-      (o' : Map) (waits : List ℕ) (a : After o run rest v s q qs o' waits w.more) where
+      (qs : List (ℕ × ℕ)) (ps : Paired q.0 p noted pairs qs)
+      (o' : Map) (waits : List ℕ) (a : After o run rest v s q qs o' waits) where
+    p_in : p < length run
+    p_in = h.waiting p (Contains-push rest p)
+
     v_run : Contains run v
-    v_run = h.waiting v (Contains-push rest v)
+    v_run = subst (λ x. Contains run x) ve (in-at run p p_in)
 
     lift : (u : ℕ) → Contains run u → Contains q.1 u
     lift u c = subst (λ xs. Contains xs u) (sym w.run) (Contains-append_left run w.more u c)
 
-    lift_more : (u : ℕ) → Contains w.more u → Contains q.1 u
-    lift_more u c = subst (λ xs. Contains xs u) (sym w.run) (Contains-append_right run w.more u c)
-
     split : (u : ℕ) → Contains q.1 u → Contains run u ⊎ Contains w.more u
     split u c = Contains-append_cases run w.more u (subst (λ xs. Contains xs u) w.run c)
 
-    old_pair : (u z : ℕ) → Contains pairs (z, u) → Contains qs (z, u)
-    old_pair u z c = ps.keeps (z, u) c
+    in_longer : (i : ℕ) → i < length run → i < length q.1
+    in_longer i l = let e = ap length w.run in omega (arith, length-append run w.more)
+
+    same_at : (i : ℕ) → i < length run → slice_index q.1 i ≡ slice_index run i
+    same_at i l = ap (λ xs. slice_index xs i) w.run ∙ at-front run w.more i l
+
+    v_at : slice_index q.1 p ≡ v
+    v_at = same_at p p_in ∙ ve
+
+    old_pair : (i z : ℕ) → Contains pairs (z, i) → Contains qs (z, i)
+    old_pair i z c = ps.keeps (z, i) c
 
     dep : (z : ℕ) → Contains noted z → Dep (least count limit right) reads v z
     dep z c = record { at = assigned (b, o); within = h.progress.within; read = All-contains (λ x. Contains (reads v (assigned (b, o))) x) noted z r.within c }
 
-    same_back : (read : List ℕ) → (assigned (b, o) v ≡ s) ⊎ (Contains read v → ⊥) → (p : Assignment) → Agree read (assigned (b, o')) p → Agree read (assigned (b, o)) p
-    same_back read why p same = record { at = λ z c. back_by z (z == v) refl why c ∙ same.at z c }
+    same_back : (read : List ℕ) → (assigned (b, o) v ≡ s) ⊎ (Contains read v → ⊥) → (f : Assignment) → Agree read (assigned (b, o')) f → Agree read (assigned (b, o)) f
+    same_back read why f same = record { at = λ z c. back_by z (z == v) refl why c ∙ same.at z c }
       where
         back_by : (z : ℕ) (c : Bool) → (z == v) ≡ c → (assigned (b, o) v ≡ s) ⊎ (Contains read v → ⊥) → Contains read z → assigned (b, o) z ≡ assigned (b, o') z
         back_by z true e (inl stays) d = ap (λ x. assigned (b, o) x) (test_same z v e) ∙ stays ∙ sym a.itself ∙ ap (λ x. assigned (b, o') x) (sym (test_same z v e))
@@ -90,11 +108,11 @@ module _ (count limit : ℕ) (right : ℕ → Assignment → Set) (reads : ℕ �
         back_by z false e why d = sym (a.others z (apart_from z v e))
 
     -- v did not have s before: then it waits, or it did not read itself
-    known_v : Contains waits v ⊎ Known right (b, o') q.1 qs v (assigned (b, o') v)
+    known_v : Contains waits p ⊎ Known right (b, o') q.1 qs p
     known_v = elim a.told [
       | inl stays ↦ inr (it (inl stays))
       | inr told ↦ elim (reads_it v noted) [
-        | inl c ↦ inl (told v (readers-has v v qs (ps.has v c (stored_some v (lift v v_run)))))
+        | inl c ↦ inl (told p (readers-has v p qs (ps.has v c (stored_some v (lift v v_run)))))
         | inr never ↦ inr (it (inr never))
       ]
     ]
@@ -102,21 +120,21 @@ module _ (count limit : ℕ) (right : ℕ → Assignment → Set) (reads : ℕ �
         stored_some : (z : ℕ) → Contains q.1 z → IsSome (get q.0 z)
         stored_some z c = own_has count limit right mono fits b q.0 q.1 z w.progress c
 
-        it : (assigned (b, o) v ≡ s) ⊎ (Contains noted v → ⊥) → Known right (b, o') q.1 qs v (assigned (b, o') v)
+        it : (assigned (b, o) v ≡ s) ⊎ (Contains noted v → ⊥) → Known right (b, o') q.1 qs p
         it why = record {
           read = noted;
           there = λ z c. a.keeps z (w.has z c);
-          again = λ p same. r.local p (same_back noted why p same) ∙ sym a.itself;
+          again = λ f same. ap (λ x. right x f) v_at ∙ r.local f (same_back noted why f same) ∙ sym a.itself ∙ ap (λ x. assigned (b, o') x) (sym v_at);
           paired = λ z c d. ps.has z c (stored_some z d);
         }
 
-    known_other : (u : ℕ) → (u ≡ v → ⊥) → Contains run u → Contains waits u ⊎ Known right (b, o') q.1 qs u (assigned (b, o') u)
-    known_other u apart c = elim (h.known u c) [
-      | inl wait ↦ elim (Contains-push_cases rest v u wait) [ inl d ↦ inl (a.rest_waits u d) | inr is ↦ absurd (apart (sym is)) ]
+    known_other : (i : ℕ) → (i ≡ p → ⊥) → i < length run → Contains waits i ⊎ Known right (b, o') q.1 qs i
+    known_other i apart l = elim (h.known i l) [
+      | inl wait ↦ elim (Contains-push_cases rest p i wait) [ inl d ↦ inl (a.rest_waits i d) | inr is ↦ absurd (apart (sym is)) ]
       | inr k ↦ elim a.told [
         | inl stays ↦ inr (it k (inl stays))
         | inr told ↦ elim (reads_it v k.read) [
-          | inl d ↦ inl (told u (readers-has v u qs (old_pair u v (k.paired v d v_run))))
+          | inl d ↦ inl (told i (readers-has v i qs (old_pair i v (k.paired v d v_run))))
           | inr never ↦ inr (it k (inr never))
         ]
       ]
@@ -126,67 +144,83 @@ module _ (count limit : ℕ) (right : ℕ → Assignment → Set) (reads : ℕ �
         in_run z has (inl d) = d
         in_run z has (inr d) = absurd (none_some (found (b, o) z) has.0 (w.new z d) has.1)
 
-        it : (k : Known right (b, o) run pairs u (assigned (b, o) u)) → (assigned (b, o) v ≡ s) ⊎ (Contains k.read v → ⊥) → Known right (b, o') q.1 qs u (assigned (b, o') u)
+        u : ℕ
+        u = slice_index run i
+
+        it : (k : Known right (b, o) run pairs i) → (assigned (b, o) v ≡ s) ⊎ (Contains k.read v → ⊥) → Known right (b, o') q.1 qs i
         it k why = record {
           read = k.read;
           there = λ z d. a.keeps z (w.keeps z (k.there z d));
-          again = λ p same. k.again p (same_back k.read why p same) ∙ sym (a.others u apart);
-          paired = λ z d e. old_pair u z (k.paired z d (in_run z (k.there z d) (split z e)));
+          again = λ f same.
+              ap (λ x. right x f) (same_at i l) ∙ k.again f (same_back k.read why f same)
+              ∙ sym (a.others (slice_index run i) (λ is. at-apart run h.distinct i p l p_in apart (is ∙ sym ve)))
+              ∙ ap (λ x. assigned (b, o') x) (sym (same_at i l));
+          paired = λ z d e. old_pair i z (k.paired z d (in_run z (k.there z d) (split z e)));
         }
 
-    known_all : (u : ℕ) → (c : Bool) → (u == v) ≡ c → Contains run u ⊎ Contains w.more u → Contains waits u ⊎ Known right (b, o') q.1 qs u (assigned (b, o') u)
-    known_all u c e (inr d) = inl (a.more_waits u d)
-    known_all u true e (inl d) = subst (λ x. Contains waits x ⊎ Known right (b, o') q.1 qs x (assigned (b, o') x)) (sym (test_same u v e)) known_v
-    known_all u false e (inl d) = known_other u (apart_from u v e) d
+    known_all : (i : ℕ) → (c : Bool) → (i == p) ≡ c → i < length q.1 → (i < length run) ⊎ (length run ≤ i) → Contains waits i ⊎ Known right (b, o') q.1 qs i
+    known_all i c e l (inr high) = inl (a.more_waits i high l)
+    known_all i true e l (inl low) = subst (λ x. Contains waits x ⊎ Known right (b, o') q.1 qs x) (sym (test_same i p e)) known_v
+    known_all i false e l (inl low) = known_other i (apart_from i p e) low
 
-    pairs_all : (u z : ℕ) → Contains pairs (z, u) ⊎ ((u ≡ v) × Contains noted z × IsSome (get q.0 z)) → Contains q.1 u × Contains q.1 z × Dep (least count limit right) reads u z
-    pairs_all u z (inl c) = let d = h.pairs_in u z c in (lift u d.0, lift z d.1, d.2)
-    pairs_all u z (inr n) =
-        (subst (λ x. Contains q.1 x) (sym n.0) (lift v v_run), w.progress.stored z n.2, subst (λ x. Dep (least count limit right) reads x z) (sym n.0) (dep z n.1))
+    pairs_all : (i z : ℕ) → Contains pairs (z, i) ⊎ ((i ≡ p) × Contains noted z × IsSome (get q.0 z)) → (i < length q.1) × Contains q.1 z × Dep (least count limit right) reads (slice_index q.1 i) z
+    pairs_all i z (inl c) = let d = h.pairs_in i z c in (in_longer i d.0, lift z d.1, subst (λ x. Dep (least count limit right) reads x z) (sym (same_at i d.0)) d.2)
+    pairs_all i z (inr n) =
+        (subst (λ x. x < length q.1) (sym n.0) (in_longer p p_in), w.progress.stored z n.2, subst (λ x. Dep (least count limit right) reads x z) (sym (ap (λ x. slice_index q.1 x) n.0 ∙ v_at)) (dep z n.1))
 
     reached_all : (u : ℕ) → Contains run u ⊎ Contains w.more u → Reach (least count limit right) reads starts u
     reached_all u (inl c) = h.reached u c
     reached_all u (inr c) = on (h.reached v v_run) (dep u (w.from u c))
 
-    waiting_all : (u : ℕ) → Contains rest u ⊎ Contains w.more u ⊎ Contains (readers v qs) u → Contains q.1 u
-    waiting_all u (inl c) = lift u (h.waiting u (Contains-append_left rest (v ∷ []) u c))
-    waiting_all u (inr (inl c)) = lift_more u c
-    waiting_all u (inr (inr c)) = (pairs_all u v (ps.new u v (readers-in v u qs c))).0
+    waiting_all : (i : ℕ) → Contains rest i ⊎ (i < length q.1) ⊎ Contains (readers v qs) i → i < length q.1
+    waiting_all i (inl c) = in_longer i (h.waiting i (Contains-append_left rest (p ∷ []) i c))
+    waiting_all i (inr (inl l)) = l
+    waiting_all i (inr (inr c)) = (pairs_all i v (ps.new i v (readers-in v i qs c))).0
 
     -- one step
     pub lazy_step : Lazy count limit right reads b o' starts q.1 waits qs
     lazy_step = record {
       progress = a.progress;
-      known = λ u c. known_all u (u == v) refl (split u c);
-      waiting = λ u c. waiting_all u (a.waiting u c);
-      pairs_in = λ u z c. pairs_all u z (ps.new u z c);
+      known = λ i l. known_all i (i == p) refl l (low_or_high i (length run));
+      waiting = λ i c. waiting_all i (a.waiting i c);
+      pairs_in = λ i z c. pairs_all i z (ps.new i z c);
       reached = λ u c. reached_all u (split u c);
       distinct = w.apart h.distinct;
       ordered = ps.ordered h.ordered;
     }
 
-  -- nothing waits: each set is that of the least solution
-  pub lazy_done : (o : Map) (run : List ℕ) (pairs : List (ℕ × ℕ)) → Lazy count limit right reads b o starts run [] pairs → AllLeast count limit right (b, o)
-  lazy_done o run pairs h = record { at = settled_is_least count limit right mono fits (b, o) h.progress.within (λ v s e. settled v s e (h.progress.listed v s e)) }
-    where
-      settled : (v : ℕ) (s : Set) → found (b, o) v ≡ Some s → (s ≡ least count limit right v) ⊎ Contains run v → IsSettled right (least count limit right) (b, o) v s
-      settled v s e (inl is) = inl is
-      settled v s e (inr c) = elim (h.known v c) [
-        | inl wait ↦ absurd (let l = wait.1 in omega arith)
-        | inr k ↦ inr (record { read = k.read; there = k.there; again = λ p same. k.again p same ∙ assigned_at (b, o) v s e })
-      ]
-
 module _ (count limit : ℕ) (right : ℕ → Assignment → Set) (reads : ℕ → Assignment → List ℕ) (mono : Monotone count right) (fits : Limited count limit right) (b : Map) (starts : List ℕ)
     (o : Map) (run : List ℕ) (pairs : List (ℕ × ℕ)) (h : Lazy count limit right reads b o starts run [] pairs) where
-  all_least : AllLeast count limit right (b, o)
-  all_least = lazy_done count limit right reads mono fits b starts o run pairs h
+  -- nothing waits: what is known of a variable in progress, by its place
+  pub record KnownHere (v : ℕ) : Type 0 where
+    pub read : List ℕ
+    pub there : (w : ℕ) → Contains read w → HasSet (b, o) w
+    pub again : (q : Assignment) → Agree read (assigned (b, o)) q → right v q ≡ assigned (b, o) v
+
+  known_by : (v i : ℕ) → slice_index run i ≡ v → Contains [] i ⊎ Known right (b, o) run pairs i → KnownHere v
+  known_by v i e (inl wait) = absurd (let l = wait.1 in omega arith)
+  known_by v i e (inr k) = record {
+    read = k.read;
+    there = k.there;
+    again = λ q same. ap (λ x. right x q) (sym e) ∙ k.again q same ∙ ap (λ x. assigned (b, o) x) e;
+  }
+
+  known_here : (v : ℕ) → Contains run v → KnownHere v
+  known_here v c = let a = at-in run v c in known_by v a.0 a.2 (h.known a.0 a.1)
+
+  settled : (v : ℕ) (s : Set) → found (b, o) v ≡ Some s → (s ≡ least count limit right v) ⊎ Contains run v → IsSettled right (least count limit right) (b, o) v s
+  settled v s e (inl is) = inl is
+  settled v s e (inr c) = let k = known_here v c in inr (record { read = k.read; there = k.there; again = λ p same. k.again p same ∙ assigned_at (b, o) v s e })
+
+  -- nothing waits: each set is that of the least solution
+  pub lazy_done : AllLeast count limit right (b, o)
+  lazy_done = record { at = settled_is_least count limit right mono fits (b, o) h.progress.within (λ v s e. settled v s e (h.progress.listed v s e)) }
 
   least_at : (w : ℕ) → HasSet (b, o) w → assigned (b, o) w ≡ least count limit right w
-  least_at w has = assigned_at (b, o) w has.0 has.1 ∙ all_least.at w has.0 has.1
+  least_at w has = assigned_at (b, o) w has.0 has.1 ∙ lazy_done.at w has.0 has.1
 
-  supported_by : (v : ℕ) → Contains run v → Contains [] v ⊎ Known right (b, o) run pairs v (assigned (b, o) v) → IsSupported (least count limit right) right (λ w. HasSet (b, o) w) v
-  supported_by v c (inl wait) = absurd (let l = wait.1 in omega arith)
-  supported_by v c (inr k) = record {
+  supported_by : (v : ℕ) → Contains run v → IsSupported (least count limit right) right (λ w. HasSet (b, o) w) v
+  supported_by v c = let k = known_here v c in record {
     rests = k.read;
     there = k.there;
     again = λ q same. k.again q (record { at = λ w d. least_at w (k.there w d) ∙ same.at w d }) ∙ least_at v (h.progress.there v c);
@@ -194,7 +228,7 @@ module _ (count limit : ℕ) (right : ℕ → Assignment → Set) (reads : ℕ �
 
   -- nothing waits: each variable rests on what it read
   pub lazy_supported : AreSupported (least count limit right) right b o
-  lazy_supported = record { at = λ v has. supported_by v (h.progress.stored v has) (h.known v (h.progress.stored v has)) }
+  lazy_supported = record { at = λ v has. supported_by v (h.progress.stored v has) }
 
 -- what the steps may still cost
 pub credit-step : (limit : ℕ) (t t' : Map × Map) (run more run' : List ℕ) (ps qs : List (ℕ × ℕ)) (n rest extra : ℕ)
@@ -223,12 +257,38 @@ credit-most limit t run vars ps pairs fit a c =
     omega arith
 
 module _ (count limit : ℕ) (right : ℕ → Assignment → Set) (reads : ℕ → Assignment → List ℕ) (mono : Monotone count right) (fits : Limited count limit right) (b : Map) (starts : List ℕ)
-    (o : Map) (run rest : List ℕ) (v : ℕ) (pairs : List (ℕ × ℕ)) (h : Lazy count limit right reads b o starts run (rest ++ v ∷ []) pairs)
+    (o : Map) (run rest : List ℕ) (p : ℕ) (pairs : List (ℕ × ℕ)) (h : Lazy count limit right reads b o starts run (rest ++ p ∷ []) pairs)
+    (v : ℕ) (ve : slice_index run p ≡ v)
     (s : Set) (noted : List ℕ) (r : WasRead (right v) (reads v) (b, o) noted s)
     (q : Map × List ℕ) (w : Extends count limit right mono fits b (o, run) noted q)
-    (qs : List (ℕ × ℕ)) (ps : Paired q.0 v noted pairs qs) where
+    (qs : List (ℕ × ℕ)) (ps : Paired q.0 p noted pairs qs) where
   run_v : Contains run v
-  run_v = h.waiting v (Contains-push rest v)
+  run_v = subst (λ x. Contains run x) ve (in-at run p (h.waiting p (Contains-push rest p)))
+
+  longer : length q.1 ≡ length run + length w.more
+  longer = ap length w.run ∙ length-append run w.more
+
+  -- the places of the variables that were added
+  abbrev added : List ℕ
+  added = places (length run) (length q.1 - length run)
+
+  added-has : (i : ℕ) → length run ≤ i → i < length q.1 → Contains added i
+  added-has i l m = let e = longer in places-has (length run) (length q.1 - length run) i l (omega arith)
+
+  added-in : (i : ℕ) → Contains added i → i < length q.1
+  added-in i c = let e = longer in let l = (places-in (length run) (length q.1 - length run) i c).1 in omega arith
+
+  added-many : length added ≡ length w.more
+  added-many = let e = longer in length-places (length run) (length q.1 - length run) ∙ minus (length q.1) (length run) (length w.more) e
+    where
+      minus : (n m k : ℕ) → n ≡ m + k → n - m ≡ k
+      minus n m k e = omega arith
+
+  waits_added : Waits rest added (with_places rest added)
+  waits_added = waits-more rest added
+
+  waits_woken : Waits (with_places rest added) (readers v qs) (with_places (with_places rest added) (readers v qs))
+  waits_woken = waits-more (with_places rest added) (readers v qs)
 
   run'_v : Contains q.1 v
   run'_v = subst (λ xs. Contains xs v) (sym w.run) (Contains-append_left run w.more v run_v)
@@ -246,9 +306,9 @@ module _ (count limit : ℕ) (right : ℕ → Assignment → Set) (reads : ℕ �
   here = sym (assigned-apart b q.0 v apart_v)
 
   abbrev Stepped : Map → List ℕ → Type 0
-  Stepped o' waits = After count limit right reads mono fits b starts o run rest v s q qs o' waits w.more × (length waits + credit limit (b, o) run pairs ≤ length rest + credit limit (b, o') q.1 qs)
+  Stepped o' waits = After count limit right reads mono fits b starts o run rest v s q qs o' waits × (length waits + credit limit (b, o) run pairs ≤ length rest + credit limit (b, o') q.1 qs)
 
-  stepped_same : is_below s (or_none (get q.0 v)) ≡ true → Stepped q.0 (rest ++ w.more)
+  stepped_same : is_below s (or_none (get q.0 v)) ≡ true → Stepped q.0 (with_places rest added)
   stepped_same e =
       let below : Below s (assigned (b, q.0) v) = record { is = ap (λ x. is_below s x) (sym here) ∙ e } in
       let is : s ≡ assigned (b, o) v = below-antisym s (assigned (b, o) v) (subst (λ a. Below s (a v)) w.same below) (subst (λ x. Below (assigned (b, o) v) x) (sym r.value) (h.progress.rising v run_v)) in
@@ -261,14 +321,15 @@ module _ (count limit : ℕ) (right : ℕ → Assignment → Set) (reads : ℕ �
           others = λ z n. ap (λ (a : Assignment). a z) w.same;
           keeps = λ z k. k;
           told = inl (sym is);
-          rest_waits = λ u c. Contains-append_left rest w.more u c;
-          more_waits = λ u c. Contains-append_right rest w.more u c;
-          waiting = λ u c. elim (Contains-append_cases rest w.more u c) [ inl d ↦ inl d | inr d ↦ inr (inl d) ];
+          rest_waits = waits_added.keeps;
+          more_waits = λ i l m. waits_added.has i (added-has i l m);
+          waiting = λ i c. elim (waits_added.only i c) [ inl d ↦ inl d | inr d ↦ inr (inl (added-in i d)) ];
         },
-        credit-step limit (b, o) (b, q.0) run w.more q.1 pairs qs (length (rest ++ w.more)) (length rest) 0 w.run ps.sums equal (omega (arith, length-append rest w.more)),
+        credit-step limit (b, o) (b, q.0) run w.more q.1 pairs qs (length (with_places rest added)) (length rest) 0 w.run ps.sums equal
+            (let k = waits_added.few in let n = added-many in omega arith),
       )
 
-  stepped_rises : is_below s (or_none (get q.0 v)) ≡ false → Stepped (insert q.0 v s) ((rest ++ w.more) ++ readers v qs)
+  stepped_rises : is_below s (or_none (get q.0 v)) ≡ false → Stepped (insert q.0 v s) (with_places (with_places rest added) (readers v qs))
   stepped_rises e =
       let o' = insert q.0 v s in
       let up = raise-within count limit right mono fits b q.0 q.1 v s w.progress run'_v value in
@@ -288,65 +349,67 @@ module _ (count limit : ℕ) (right : ℕ → Assignment → Set) (reads : ℕ �
           itself = itself;
           others = λ z n. assigned-insert b q.0 v s z apart_v ∙ ap (λ c. cond c s (assigned (b, q.0) z)) (test_apart z v n) ∙ ap (λ (a : Assignment). a z) w.same;
           keeps = λ z k. has-insert b q.0 v s z apart_v k;
-          told = inr (λ u c. Contains-append_right (rest ++ w.more) (readers v qs) u c);
-          rest_waits = λ u c. Contains-append_left (rest ++ w.more) (readers v qs) u (Contains-append_left rest w.more u c);
-          more_waits = λ u c. Contains-append_left (rest ++ w.more) (readers v qs) u (Contains-append_right rest w.more u c);
-          waiting = λ u c. elim (Contains-append_cases (rest ++ w.more) (readers v qs) u c) [
-            | inl d ↦ elim (Contains-append_cases rest w.more u d) [ inl e ↦ inl e | inr e ↦ inr (inl e) ]
+          told = inr waits_woken.has;
+          rest_waits = λ i c. waits_woken.keeps i (waits_added.keeps i c);
+          more_waits = λ i l m. waits_woken.keeps i (waits_added.has i (added-has i l m));
+          waiting = λ i c. elim (waits_woken.only i c) [
+            | inl d ↦ elim (waits_added.only i d) [ inl e ↦ inl e | inr e ↦ inr (inl (added-in i e)) ]
             | inr d ↦ inr (inr d)
           ];
         },
-        credit-step limit (b, o) (b, o') run w.more q.1 pairs qs (length ((rest ++ w.more) ++ readers v qs)) (length rest) (length (readers v qs)) w.run ps.sums
+        credit-step limit (b, o) (b, o') run w.more q.1 pairs qs (length (with_places (with_places rest added) (readers v qs))) (length rest) (length (readers v qs)) w.run ps.sums
             (readers-cost v (λ z. rank limit (assigned (b, o) z)) (λ z. rank limit (assigned (b, o') z)) le lt qs)
-            (omega (arith, length-append (rest ++ w.more) (readers v qs), length-append rest w.more)),
+            (let k = waits_added.few in let m = waits_woken.few in let n = added-many in omega arith),
       )
 
-  stepped_by : (c : Bool) → is_below s (or_none (get q.0 v)) ≡ c → Stepped (cond c q.0 (insert q.0 v s)) (cond c (rest ++ w.more) ((rest ++ w.more) ++ readers v qs))
+  stepped_by : (c : Bool) → is_below s (or_none (get q.0 v)) ≡ c → Stepped (cond c q.0 (insert q.0 v s)) (cond c (with_places rest added) (with_places (with_places rest added) (readers v qs)))
   stepped_by true e = stepped_same e
   stepped_by false e = stepped_rises e
 
   -- one step of the worklist, as the code takes it
-  pub stepped : (waited : List ℕ) → waited ≡ rest ++ w.more → (o' : Map) → o' ≡ cond (is_below s (or_none (get q.0 v))) q.0 (insert q.0 v s)
-      → (waits : List ℕ) → waits ≡ cond (is_below s (or_none (get q.0 v))) waited (waited ++ readers v qs)
+  pub stepped : (waited : List ℕ) → waited ≡ with_places rest added → (o' : Map) → o' ≡ cond (is_below s (or_none (get q.0 v))) q.0 (insert q.0 v s)
+      → (waits : List ℕ) → waits ≡ cond (is_below s (or_none (get q.0 v))) waited (with_places waited (readers v qs))
       → Lazy count limit right reads b o' starts q.1 waits qs × (length waits + credit limit (b, o) run pairs ≤ length rest + credit limit (b, o') q.1 qs) × ((z : ℕ) → HasSet (b, o) z → HasSet (b, o') z)
   stepped waited we o' oe waits wse =
       let c = is_below s (or_none (get q.0 v)) in
-      let all : Stepped o' waits = subst (λ x. Stepped x waits) (sym oe) (subst (λ y. Stepped (cond c q.0 (insert q.0 v s)) y) (sym (wse ∙ ap (λ x. cond c x (x ++ readers v qs)) we)) (stepped_by c refl)) in
-      (lazy_step count limit right reads mono fits b starts o run rest v pairs h s noted r q w qs ps o' waits all.0, all.1, λ z k. all.0.keeps z (w.keeps z k))
-
-drop-front : (xs ys : List ℕ) → drop (length xs) (xs ++ ys) ≡ ys
-drop-front [] ys = refl
-drop-front (x ∷ xs) ys = drop-front xs ys
-
-pub fresh-ones : (run run' more : List ℕ) (n : ℕ) → run' ≡ run ++ more → n ≡ length run → drop n run' ≡ more
-fresh-ones run run' more n e h = ap (λ k. drop k run') h ∙ ap (λ xs. drop (length run) xs) e ∙ drop-front run more
+      let all : Stepped o' waits = subst (λ x. Stepped x waits) (sym oe) (subst (λ y. Stepped (cond c q.0 (insert q.0 v s)) y) (sym (wse ∙ ap (λ x. cond c x (with_places x (readers v qs))) we)) (stepped_by c refl)) in
+      (lazy_step count limit right reads mono fits b starts o run rest p pairs h v ve s noted r q w qs ps o' waits all.0, all.1, λ z k. all.0.keeps z (w.keeps z k))
 
 module _ (count limit : ℕ) (right : ℕ → Assignment → Set) (reads : ℕ → Assignment → List ℕ) (mono : Monotone count right) (fits : Limited count limit right) (b : Map) (starts : List ℕ)
-    (o : Map) (run rest : List ℕ) (v : ℕ) (pairs : List (ℕ × ℕ)) (h : Lazy count limit right reads b o starts run (rest ++ v ∷ []) pairs) where
-  pub step_in_range : v < count
-  step_in_range = h.progress.counted v (h.waiting v (Contains-push rest v))
+    (o : Map) (run rest : List ℕ) (p : ℕ) (pairs : List (ℕ × ℕ)) (h : Lazy count limit right reads b o starts run (rest ++ p ∷ []) pairs) where
+  pub step_place : p < length run
+  step_place = h.waiting p (Contains-push rest p)
 
-  module _ (few : All (λ w. w < count) (reads v (assigned (b, o)))) (s : Set) (noted : List ℕ) (r : WasRead (right v) (reads v) (b, o) noted s)
-      (q : Map × List ℕ) (ws : List ℕ) (qe : q ≡ extended b (o, run) ws) (we : ws ≡ noted) where
-    extends_here : Extends count limit right mono fits b (o, run) noted q
-    extends_here = extends_as count limit right mono fits b (o, run) q noted ws qe we
-        (read-in_range count limit right mono fits b (reads v (assigned (b, o))) noted r.within few) h.progress
+  module _ (v : ℕ) (here : v ≡ slice_index_or run p v) where
+    ve : slice_index run p ≡ v
+    ve = at-any run p v step_place ∙ sym here
 
-    pub step_has : IsSome (get q.0 v)
-    step_has = extends_has count limit right mono fits b (o, run) q noted v (h.waiting v (Contains-push rest v)) extends_here
+    step_run : Contains run v
+    step_run = subst (λ x. Contains run x) ve (in-at run p step_place)
 
-    pub step_longer : (n m : ℕ) → n ≡ length run → m ≡ length q.1 → n ≤ m
-    step_longer n m e f = let l = ap length extends_here.run in omega (arith, length-append run extends_here.more)
+    pub step_in_range : v < count
+    step_in_range = h.progress.counted v step_run
 
-    pub step_done : (n : ℕ) (run' : List ℕ) → n ≡ length run → run' ≡ q.1 → (waited : List ℕ) → waited ≡ rest ++ drop n run' → (vs : List ℕ) → vs ≡ noted → (qs : List (ℕ × ℕ)) → qs ≡ paired q.0 v vs pairs
-        → (rs : List (ℕ × ℕ)) → rs ≡ qs → (o' : Map) → o' ≡ cond (is_below s (or_none (get q.0 v))) q.0 (insert q.0 v s)
-        → (waits : List ℕ) → waits ≡ cond (is_below s (or_none (get q.0 v))) waited (waited ++ readers v rs)
-        → Lazy count limit right reads b o' starts q.1 waits qs × (length waits + credit limit (b, o) run pairs ≤ length rest + credit limit (b, o') q.1 qs) × ((z : ℕ) → HasSet (b, o) z → HasSet (b, o') z)
-    step_done n run' ne re waited waitede vs vse qs qse rs rse o' oe waits wse =
-        let ps : Paired q.0 v noted pairs qs = subst (λ x. Paired q.0 v noted pairs x) (sym (qse ∙ ap (λ x. paired q.0 v x pairs) vse)) (paired-all q.0 v noted pairs) in
-        stepped count limit right reads mono fits b starts o run rest v pairs h s noted r q extends_here qs ps
-        waited (waitede ∙ ap (λ x. rest ++ x) (ap (λ x. drop n x) re ∙ fresh-ones run q.1 extends_here.more n extends_here.run ne)) o' oe waits
-        (wse ∙ ap (λ x. cond (is_below s (or_none (get q.0 v))) waited (waited ++ readers v x)) rse)
+    module _ (few : All (λ w. w < count) (reads v (assigned (b, o)))) (s : Set) (noted : List ℕ) (r : WasRead (right v) (reads v) (b, o) noted s)
+        (q : Map × List ℕ) (ws : List ℕ) (qe : q ≡ extended b (o, run) ws) (we : ws ≡ noted) where
+      extends_here : Extends count limit right mono fits b (o, run) noted q
+      extends_here = extends_as count limit right mono fits b (o, run) q noted ws qe we
+          (read-in_range count limit right mono fits b (reads v (assigned (b, o))) noted r.within few) h.progress
+
+      pub step_has : IsSome (get q.0 v)
+      step_has = extends_has count limit right mono fits b (o, run) q noted v step_run extends_here
+
+      pub step_longer : (n m : ℕ) → n ≡ length run → m ≡ length q.1 → n ≤ m
+      step_longer n m e f = let l = ap length extends_here.run in omega (arith, length-append run extends_here.more)
+
+      pub step_done : (n m : ℕ) → n ≡ length run → m ≡ length q.1 → (waited : List ℕ) → waited ≡ with_places rest (places n (m - n)) → (vs : List ℕ) → vs ≡ noted → (qs : List (ℕ × ℕ)) → qs ≡ paired q.0 p vs pairs
+          → (o' : Map) → o' ≡ cond (is_below s (or_none (get q.0 v))) q.0 (insert q.0 v s)
+          → (waits : List ℕ) → waits ≡ cond (is_below s (or_none (get q.0 v))) waited (with_places waited (readers v qs))
+          → Lazy count limit right reads b o' starts q.1 waits qs × (length waits + credit limit (b, o) run pairs ≤ length rest + credit limit (b, o') q.1 qs) × ((z : ℕ) → HasSet (b, o) z → HasSet (b, o') z)
+      step_done n m ne me waited waitede vs vse qs qse o' oe waits wse =
+          let ps : Paired q.0 p noted pairs qs = subst (λ x. Paired q.0 p noted pairs x) (sym (qse ∙ ap (λ x. paired q.0 p x pairs) vse)) (paired-all q.0 p noted pairs) in
+          stepped count limit right reads mono fits b starts o run rest p pairs h v ve s noted r q extends_here qs ps
+          waited (waitede ∙ (λ i. with_places rest (places (ne i) (me i - ne i)))) o' oe waits wse
 
 none_ordered : IsStrictlySortedBy pair_cmp []
 unfolding IsStrictlySortedBy
@@ -412,11 +475,12 @@ pub most_steps : ℕ → ℕ → ℕ
 most_steps count limit = length (upto count) + (limit + 2) * length (grid count count)
 
 module _ (count limit : ℕ) (right : ℕ → Assignment → Set) (reads : ℕ → Assignment → List ℕ) (mono : Monotone count right) (fits : Limited count limit right) (b : Map) (starts : List ℕ)
-    (o : Map) (run pending : List ℕ) (pairs : List (ℕ × ℕ)) (h : Lazy count limit right reads b o starts run pending pairs) where
+    (o : Map) (run waits : List ℕ) (pairs : List (ℕ × ℕ)) (h : Lazy count limit right reads b o starts run waits pairs) where
   pub credit-few : (N : ℕ → Type 0) → ((v : ℕ) → Contains run v → N v) → (from now : ℕ) → now ≤ from + credit limit (b, o) run pairs → IsCheap limit (least count limit right) reads N from now
   credit-few N all from now le vars ps vs pss =
       let a = few-vars run vars h.distinct (λ v c. vs v (all v c)) in
-      let d = few-pairs pairs ps h.ordered (λ v w c. let k = h.pairs_in v w c in pss v w (all v k.0) (all w k.1) k.2) in
+      let d = few-pairs run pairs ps h.distinct h.ordered
+      (λ i w c. let k = h.pairs_in i w c in (k.0, pss (slice_index run i) w (all (slice_index run i) (in-at run i k.0)) (all w k.1) k.2)) in
       let m = credit-most limit (b, o) run vars pairs ps h.progress.fits a d in
       omega arith
 
@@ -424,7 +488,8 @@ module _ (count limit : ℕ) (right : ℕ → Assignment → Set) (reads : ℕ �
   unfolding most_steps
   credit-bound =
       let a = few-vars run (upto count) h.distinct (λ v c. in-upto count v (h.progress.counted v c)) in
-      let d = few-pairs pairs (grid count count) h.ordered (λ v w c. let k = h.pairs_in v w c in in-grid count count v w (h.progress.counted v k.0) (h.progress.counted w k.1)) in
+      let d = few-pairs run pairs (grid count count) h.distinct h.ordered
+      (λ i w c. let k = h.pairs_in i w c in (k.0, in-grid count count (slice_index run i) w (h.progress.counted (slice_index run i) (in-at run i k.0)) (h.progress.counted w k.1))) in
       credit-most limit (b, o) run (upto count) pairs (grid count count) h.progress.fits a d
 
   pub run_lacking : (v : ℕ) → Contains run v → Lacking (least count limit right) reads b starts v
@@ -459,37 +524,44 @@ module _ (count limit : ℕ) (right : ℕ → Assignment → Set) (reads : ℕ �
     listed = λ v s f. inl (all.at v s f);
   }
 
-  pub lazy-first : (o : Map) (run : List ℕ) (v : ℕ) (q : Map × List ℕ) (pending : List ℕ) (pairs : List (ℕ × ℕ)) → o ≡ empty → run ≡ [] → AllLeast count limit right (b, o) → v < count → found (b, o) v ≡ None
-      → q ≡ added_by (found (b, o) v) o run v → pending ≡ v ∷ [] → pairs ≡ [] → Lazy count limit right reads b q.0 (v ∷ []) q.1 pending pairs
-  lazy-first o run v q pending pairs oe re all lt f qe pe pse =
+  pub lazy-first : (o : Map) (run : List ℕ) (v : ℕ) (q : Map × List ℕ) (waits : List ℕ) (pairs : List (ℕ × ℕ)) → o ≡ empty → run ≡ [] → AllLeast count limit right (b, o) → v < count → found (b, o) v ≡ None
+      → q ≡ added_by (found (b, o) v) o run v → waits ≡ 0 ∷ [] → pairs ≡ [] → Lazy count limit right reads b q.0 (v ∷ []) q.1 waits pairs
+  lazy-first o run v q waits pairs oe re all lt f qe we pse =
       let e : q ≡ (insert o v none, run ++ v ∷ []) = qe ∙ ap (λ x. added_by x o run v) f in
       let r1 : run ++ v ∷ [] ≡ v ∷ [] = ap (λ xs. xs ++ v ∷ []) re in
+      let run1 : q.1 ≡ v ∷ [] = ap (λ (x : Map × List ℕ). x.1) e ∙ r1 in
       let g : InProgress count limit right (b, insert o v none) (run ++ v ∷ []) = progress-new count limit right mono fits b o run v (progress-base o run oe re all) f lt in
-      let inside : (u : ℕ) → Contains q.1 u → Contains (v ∷ []) u = λ u c. subst (λ xs. Contains xs u) (ap (λ (x : Map × List ℕ). x.1) e ∙ r1) c in
       record {
         progress = subst (λ (x : Map × List ℕ). InProgress count limit right (b, x.0) x.1) (sym e) g;
-        known = λ u c. inl (subst (λ xs. Contains xs u) (sym pe) (inside u c));
-        waiting = λ u c. subst (λ xs. Contains xs u) (sym (ap (λ (x : Map × List ℕ). x.1) e ∙ r1)) (subst (λ xs. Contains xs u) pe c);
-        pairs_in = λ u z c. absurd (no_pair pairs pse (z, u) c);
-        reached = λ u c. start (inside u c);
-        distinct = subst (λ xs. IsDistinct nat_eq xs) (sym (ap (λ (x : Map × List ℕ). x.1) e ∙ r1)) (IsDistinct-push nat_eq_equiv [] v (IsDistinct-from_apart nat_eq [] (λ i j d l m. absurd (omega arith))) refl);
+        known = λ i l. inl (subst (λ xs. Contains xs i) (sym we) (only_first i (subst (λ xs. i < length xs) run1 l)));
+        waiting = λ i c. subst (λ xs. i < length xs) (sym run1) (first_only i (subst (λ xs. Contains xs i) we c));
+        pairs_in = λ i z c. absurd (no_pair pairs pse (z, i) c);
+        reached = λ u c. start (subst (λ xs. Contains xs u) run1 c);
+        distinct = subst (λ xs. IsDistinct nat_eq xs) (sym run1) (IsDistinct-push nat_eq_equiv [] v (IsDistinct-from_apart nat_eq [] (λ i j d l m. absurd (omega arith))) refl);
         ordered = subst (λ xs. IsStrictlySortedBy pair_cmp xs) (sym pse) none_ordered;
       }
+    where
+      only_first : (i : ℕ) → i < 1 → Contains (0 ∷ []) i
+      only_first zero l = head-in 0 []
+      only_first (suc i) l = absurd (omega arith)
+
+      first_only : (i : ℕ) → Contains (0 ∷ []) i → i < 1
+      first_only i c = elim (cons-cases 0 [] i c) [ inl is ↦ subst (λ x. x < 1) is (omega arith) | inr d ↦ absurd (let l = d.1 in omega arith) ]
 
   pub lazy-first_has : (o : Map) (run : List ℕ) (v : ℕ) (q : Map × List ℕ) → found (b, o) v ≡ None → q ≡ added_by (found (b, o) v) o run v → HasSet (b, q.0) v
   lazy-first_has o run v q f qe =
       subst (λ (x : Map × List ℕ). HasSet (b, x.0) v) (sym (qe ∙ ap (λ x. added_by x o run v) f)) (has-itself b o v none (found-first b o v f))
 
-  pub lazy-first_cost : (o : Map) (run : List ℕ) (v : ℕ) (q : Map × List ℕ) (pending : List ℕ) (pairs : List (ℕ × ℕ)) (t : Map × Map) → found (b, o) v ≡ None → q ≡ added_by (found (b, o) v) o run v → pending ≡ v ∷ []
-      → (n : ℕ) → n + length pending ≤ n + credit limit t q.1 pairs
+  pub lazy-first_cost : (o : Map) (run : List ℕ) (v : ℕ) (q : Map × List ℕ) (waits : List ℕ) (pairs : List (ℕ × ℕ)) (t : Map × Map) → found (b, o) v ≡ None → q ≡ added_by (found (b, o) v) o run v → waits ≡ 0 ∷ []
+      → (n : ℕ) → n + length waits ≤ n + credit limit t q.1 pairs
   unfolding credit
-  lazy-first_cost o run v q pending pairs t f qe pe n =
+  lazy-first_cost o run v q waits pairs t f qe pe n =
       let l = ap length (ap (λ (x : Map × List ℕ). x.1) (qe ∙ ap (λ x. added_by x o run v) f)) in
       let m = ap length pe in
       omega (arith, length-append run (v ∷ []))
 
-pub popped : (pending rest : List ℕ) (v : ℕ) → pending ≡ rest ++ v ∷ [] → length pending ≡ length rest + 1
-popped pending rest v e = let l = ap length e in omega (arith, length-append rest (v ∷ []))
+pub taken : (waits rest : List ℕ) (p : ℕ) → waits ≡ rest ++ p ∷ [] → length waits ≡ length rest + 1
+taken waits rest p e = let l = ap length e in omega (arith, length-append rest (p ∷ []))
 
 pub on_err : {T E : Type 0} (r : Result T E) (P : Type 0) → P → OnErr r P
 on_err (Ok x) P p = tt

@@ -1,4 +1,4 @@
 pub mod Pairs
+pub mod Waiting
 pub mod Reach
 pub mod Worklist
-pub mod Kept

@@ -1,18 +1,20 @@
 // Who read whom.
-ghost use Rattle.std.specs.Prelude.{◌≡◌, ◌++◌, [], OnOk};
+ghost use Rattle.std.specs.Prelude.{◌≡◌, [], OnOk};
 ghost use Rattle.std.specs.BTreeSet.{insert_key};
 ghost use Rattle.infer_lazy.specs.Pairs.{pair_cmp, readers};
+ghost use Rattle.infer_lazy.specs.Waiting.{with_places};
 
+use crate::waiting::Waiting;
 use lint_values::Memory;
 use std::alloc::Global;
 use std::collections::BTreeSet;
 use std::marker::Model;
 
-/// Pairs of a variable that was read and its reader, each once. The readers of a variable stand together, so that they
-/// are found without the other pairs. Contracts see the list of the pairs, which ascends.
+/// Pairs of a variable that was read and its reader's place, each once. The readers of a variable stand together, so that
+/// they are found without the other pairs. Contracts see the list of the pairs, which ascends.
 #[derive(Drop)]
 pub struct Pairs {
-    pairs: BTreeSet<(u64, u64)>,
+    pairs: BTreeSet<(u64, usize)>,
 }
 
 impl Model for Pairs {
@@ -37,7 +39,7 @@ impl Pairs {
     }
 
     /// Adds a pair, unless it is there.
-    pub fn add(&mut self, read: u64, reader: u64) -> Result<(), Memory>
+    pub fn add(&mut self, read: u64, reader: usize) -> Result<(), Memory>
         ensures { OnOk result (self.new ≡ insert_key pair_cmp self.old (read, reader)) }
     {
         self.pairs.insert((read, reader))?;
@@ -45,11 +47,11 @@ impl Pairs {
     }
 
     /// Who read the variable waits.
-    pub fn wake(&self, var: u64, pending: &mut Vec<u64>) -> Result<(), Memory>
-        ensures { OnOk result (pending.new.items ≡ pending.old.items ++ readers var self.now) }
+    pub fn wake(&self, var: u64, waiting: &mut Waiting) -> Result<(), Memory>
+        ensures { OnOk result (waiting.new ≡ with_places waiting.old (readers var self.now)) }
     {
-        for pair in self.pairs.range((var, 0)..=(var, u64::MAX)) {
-            pending.push(pair.1)?;
+        for pair in self.pairs.range((var, 0)..=(var, usize::MAX)) {
+            waiting.add(pair.1)?;
         }
         Ok(())
     }

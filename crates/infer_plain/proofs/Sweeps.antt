@@ -2,12 +2,12 @@
 use Rattle.std.proofs.Common.{◌≡◌, ℕ, ◌+◌, ◌<◌, Bool, true, false, cond, not, ◌||◌, below_more, inl, inr, List, [], ◌++◌, length, refl, sym, ◌∙◌, ap, subst, arith, append_assoc, get_or}
 use Rattle.std.proofs.lemmas.Bool.Decides.{nat_tests}
 use Rattle.std.proofs.lemmas.List.Elements.{Contains-append_left}
-use Rattle.std.specs.Prelude.{nat_lt, IsSome, Some}
+use Rattle.std.specs.Prelude.{nat_lt, IsSome, Option, Some, None}
 use Rattle.std.specs.List.{All, Contains}
 use Rattle.std.proofs.lemmas.List.{append-nil, get_or_read}
 use Rattle.infer_sets.specs.Sets.{Set, is_below, Below, Fits}
 use Rattle.infer_sets.proofs.SetOrder.{below-antisym}
-use Rattle.infer_equations.specs.Assignment.{Assignment, Map, or_none}
+use Rattle.infer_equations.specs.Assignment.{Assignment, Map, either, or_none}
 use Rattle.infer_equations.specs.Least.{least}
 use Rattle.infer_reached.specs.Tables.{found, assigned}
 use Rattle.infer_reached.specs.Settled.{Settled, IsSettled}
@@ -40,6 +40,16 @@ or_right' false c e = e
 
 at_default : (xs : List ℕ) (v k : ℕ) → k < length xs → get_or xs k v ≡ v → get_or xs k 0 ≡ v
 at_default xs v k lt e = sym (get_or_read xs k v lt (sym e) 0)
+
+pub found_work : (b o : Map) (v : ℕ) → get b v ≡ None → found (b, o) v ≡ get o v
+unfolding found
+found_work b o v e = ap (λ x. either x (get o v)) e
+
+no_some : (x : Option Set) (s : Set) → x ≡ None → x ≡ Some s → ⊥
+no_some x s e f = cc
+
+pub no_work : (b o : Map) (v : ℕ) → get b v ≡ None → HasSet (b, o) v → get o v ≡ None → ⊥
+no_work b o v e has missing = no_some (found (b, o) v) has.0 (found_work b o v e ∙ missing) has.1
 
 module _ (count limit : ℕ) (right : ℕ → Assignment → Set) (mono : Monotone count right) (fits : Limited count limit right) (b : Map) where
   -- after what was read was added, the variable's set stays as it is, or it rises

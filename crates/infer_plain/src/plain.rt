@@ -3,12 +3,13 @@ ghost use Rattle.std.specs.Prelude.{◌≡◌, ℕ, ◌+◌, ◌<◌, IfOk, OnOk
 ghost use Rattle.std.specs.FinMap as map;
 ghost use Rattle.std.specs.List.{Contains};
 ghost use Rattle.infer_equations.specs.Least.{least};
-ghost use Rattle.infer_reached.specs.Tables.{found};
+ghost use Rattle.infer_equations.specs.Seen.{Keeps, solved};
+ghost use Rattle.infer_reached.specs.Tables.{found, tables};
 ghost use Rattle.infer_reached.specs.InProgress.{InProgress, HasSet};
 ghost use Rattle.infer_reached.specs.Extension.{AllLeast};
 ghost use Rattle.infer_plain.specs.Sweep.{Looked, Swept};
 
-use infer_equations::{Equations, Solved, Steps, Table};
+use infer_equations::{Equations, Steps, Table, View};
 use infer_reached::{add_all, add_one, evaluate, raise};
 use infer_sets::AbsSet;
 use lint_values::Memory;
@@ -30,12 +31,11 @@ impl Plain {
         ensures { IfOk result (λ s. s ≡ least (E.count_of eqs.now) (E.limit_of eqs.now) (E.right eqs.now) var) }
     {
         let none = Table::new(alloc);
-        let base = Solved::new(&none, &none);
-        let mut own = Table::new(alloc);
+        let mut view = View::over(alloc, &none);
         let mut run = Vec::new(alloc);
-        add_one(alloc, &base, &mut own, &mut run, var)?;
-        settle(alloc, eqs, &base, &mut own, &mut run, var, steps)?;
-        Ok(taken(&base, &mut own, var))
+        add_one(&mut view, &mut run, var)?;
+        settle(alloc, eqs, &mut view, &mut run, var, steps)?;
+        copy_of(alloc, &view, var)
     }
 }
 
@@ -49,20 +49,20 @@ fn any_change(up: bool, known: usize, reached: usize) -> bool
 fn look<E: Equations, L: Ledger>(
     alloc: Global,
     eqs: &E,
-    base: &Solved,
-    own: &mut Table,
+    view: &mut View,
     run: &mut Vec<u64>,
     var: u64,
     steps: &mut Steps<L>,
 ) -> Result<bool, Memory>
-    requires progress { InProgress (E.count_of eqs.now) (E.limit_of eqs.now) (E.right eqs.now) (base.now, own.old) run.old.items }
+    requires progress { InProgress (E.count_of eqs.now) (E.limit_of eqs.now) (E.right eqs.now) (tables view.old) run.old.items }
     requires known { Contains run.old.items var }
-    ensures { IfOk result (λ changed. Looked (E.count_of eqs.now) (E.limit_of eqs.now) (E.right eqs.now) base.now (own.old, run.old.items) var (own.new, run.new.items) changed) }
+    ensures keeps { Keeps view.old view.new }
+    ensures looked { IfOk result (λ changed. Looked (E.count_of eqs.now) (E.limit_of eqs.now) (E.right eqs.now) (solved view.old) (view.old.work, run.old.items) var (view.new.work, run.new.items) changed) }
 {
     let known = run.len();
-    let visit = evaluate(alloc, eqs, base, own, var, steps)?;
-    add_all(alloc, base, own, run, &visit.noted)?;
-    let up = raise(own, var, visit.set)?;
+    let visit = evaluate(alloc, eqs, view, var, steps)?;
+    add_all(view, run, &visit.noted)?;
+    let up = raise(view, var, visit.set)?;
     Ok(any_change(up, known, run.len()))
 }
 
@@ -76,18 +76,18 @@ fn either_rose(rose: bool, changed: bool) -> bool
 fn sweep<E: Equations, L: Ledger>(
     alloc: Global,
     eqs: &E,
-    base: &Solved,
-    own: &mut Table,
+    view: &mut View,
     run: &mut Vec<u64>,
     steps: &mut Steps<L>,
 ) -> Result<bool, Memory>
-    requires { InProgress (E.count_of eqs.now) (E.limit_of eqs.now) (E.right eqs.now) (base.now, own.old) run.old.items }
-    ensures { IfOk result (λ changed. Swept (E.count_of eqs.now) (E.limit_of eqs.now) (E.right eqs.now) base.now (own.old, run.old.items) (length run.old.items) (own.new, run.new.items) changed) }
+    requires { InProgress (E.count_of eqs.now) (E.limit_of eqs.now) (E.right eqs.now) (tables view.old) run.old.items }
+    ensures keeps { Keeps view.old view.new }
+    ensures swept { IfOk result (λ changed. Swept (E.count_of eqs.now) (E.limit_of eqs.now) (E.right eqs.now) (solved view.old) (view.old.work, run.old.items) (length run.old.items) (view.new.work, run.new.items) changed) }
 {
     let mut changed = false;
     for i in 0..run.len() {
         let var = run[i];
-        let rose = look(alloc, eqs, base, own, run, var, steps)?;
+        let rose = look(alloc, eqs, view, run, var, steps)?;
         changed = either_rose(rose, changed);
     }
     Ok(changed)
@@ -97,29 +97,29 @@ fn sweep<E: Equations, L: Ledger>(
 fn settle<E: Equations, L: Ledger>(
     alloc: Global,
     eqs: &E,
-    base: &Solved,
-    own: &mut Table,
+    view: &mut View,
     run: &mut Vec<u64>,
     var: u64,
     steps: &mut Steps<L>,
 ) -> Result<(), Memory>
-    requires progress { InProgress (E.count_of eqs.now) (E.limit_of eqs.now) (E.right eqs.now) (base.now, own.old) run.old.items }
-    requires known { HasSet (base.now, own.old) var }
-    ensures least { OnOk result (AllLeast (E.count_of eqs.now) (E.limit_of eqs.now) (E.right eqs.now) (base.now, own.new)) }
-    ensures known { OnOk result (HasSet (base.now, own.new) var) }
+    requires progress { InProgress (E.count_of eqs.now) (E.limit_of eqs.now) (E.right eqs.now) (tables view.old) run.old.items }
+    requires known { HasSet (tables view.old) var }
+    ensures keeps { Keeps view.old view.new }
+    ensures least { OnOk result (AllLeast (E.count_of eqs.now) (E.limit_of eqs.now) (E.right eqs.now) (tables view.new)) }
+    ensures known { OnOk result (HasSet (tables view.new) var) }
 {
-    while sweep(alloc, eqs, base, own, run, steps)? {}
+    while sweep(alloc, eqs, view, run, steps)? {}
     Ok(())
 }
 
-#[tactic(auto, unfolding(infer_reached::specs::Tables::found))]
-fn taken(base: &Solved, own: &mut Table, var: u64) -> AbsSet
-    requires empty { map.get base.now var ≡ None }
-    requires known { HasSet (base.now, own.old) var }
-    ensures { found (base.now, own.old) var ≡ Some result }
+// The variable's set, once more.
+fn copy_of(alloc: Global, view: &View, var: u64) -> Result<AbsSet, Memory>
+    requires none { map.get (solved view.now) var ≡ None }
+    requires known { HasSet (tables view.now) var }
+    ensures { IfOk result (λ s. found (tables view.now) var ≡ Some s) }
 {
-    match own.take(var) {
-        Some(set) => set,
+    match view.in_progress(var) {
+        Some(id) => view.set(id).copy(alloc),
         None => unreachable!(),
     }
 }

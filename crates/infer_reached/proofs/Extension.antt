@@ -1,5 +1,5 @@
 -- To add the variables that were read.
-use Rattle.std.proofs.Common.{◌≡◌, ℕ, zero, suc, ◌<◌, Bool, true, false, ◌||◌, ◌⊎◌, inl, inr, List, [], ◌∷◌, ◌++◌, length, refl, sym, ◌∙◌, ap, subst, arith, append_assoc, length-append}
+use Rattle.std.proofs.Common.{◌≡◌, ℕ, zero, suc, ◌+◌, ◌<◌, Bool, true, false, ◌||◌, ◌⊎◌, inl, inr, List, [], ◌∷◌, ◌++◌, length, drop, get_or, refl, sym, ◌∙◌, ap, subst, arith, append_assoc, length-append}
 use Rattle.std.proofs.lemmas.List.Elements.{Contains-append_left, All-contains}
 use Rattle.std.specs.Prelude.{IsSome, Option, Some, None}
 use Rattle.std.specs.List.{All, Contains, IsDistinct, list_any}
@@ -7,14 +7,19 @@ use Rattle.std.specs.Prelude.{nat_eq}
 use Rattle.std.specs.Cmp.{nat_eq_equiv}
 use Rattle.std.proofs.lemmas.Map.Keys.{IsDistinct-push}
 use Rattle.std.proofs.lemmas.List.{append-nil}
-use Rattle.infer_sets.specs.Sets.{Set, none, Below, Fits}
-use Rattle.infer_sets.proofs.SetOrder.{below-none, fits-none}
+use Rattle.infer_sets.specs.Sets.{Set, none, is_below, Below, Fits}
+use Rattle.infer_sets.proofs.SetOrder.{below-none, below-refl, fits-none}
 use Rattle.infer_equations.specs.Assignment.{Assignment, Map, Agree, or_none, either, assignment_of, overlaid}
 use Rattle.infer_equations.proofs.Overlay.{get-overlaid}
+use Rattle.infer_equations.proofs.Keeping.{drop-next}
 use Rattle.infer_equations.specs.Least.{least}
-use Rattle.infer_reached.specs.Tables.{found, assigned}
-use Rattle.infer_equations.specs.Seen.{Seen}
-use Rattle.infer_equations.specs.Reading.{Reads}
+use Rattle.infer_sets.specs.Numbers.{set_at, Grew}
+use Rattle.infer_sets.proofs.Growth.{is_number-grew}
+use Rattle.infer_sets.proofs.Layers.{set-kept}
+use Rattle.infer_reached.specs.Tables.{found, assigned, tables}
+use Rattle.infer_equations.specs.Seen.{Seen, sets, solved, Keeps, Stays}
+use Rattle.infer_equations.specs.Reading.{Gives}
+use Rattle.infer_equations.proofs.Reading.{kept_solved, stays-sets, keeps-refl, keeps-trans}
 use Rattle.infer_reached.specs.InProgress.{HasSet, InProgress, weight}
 use Rattle.infer_reached.specs.Extension.{added_by, extended, WasRead}
 use Rattle.infer_equations.proofs.Rounds.{Monotone, Limited}
@@ -33,15 +38,32 @@ assigned-overlaid_at b o v = ap or_none (get-overlaid b o v)
 pub assigned-overlaid : (b o : Map) → assignment_of (overlaid b o) ≡ assigned (b, o)
 assigned-overlaid b o = λ i v. assigned-overlaid_at b o v i
 
-pub was_read : (right : Assignment → Set) (reads : Assignment → List ℕ) (b o : Map) (before after : Seen) (s : Set) → before ≡ record { sets = overlaid b o; noted = [] } → Reads right reads before after s → WasRead right reads (b, o) after.noted s
-was_read right reads b o before after s e h =
-    let sets : assignment_of before.sets ≡ assigned (b, o) = ap (λ (x : Seen). assignment_of x.sets) e ∙ assigned-overlaid b o in
-    let noted : after.noted ≡ h.more = h.noted ∙ ap (λ (x : Seen). x.noted ++ h.more) e in
-    record {
-      value = h.value ∙ ap right sets;
-      within = subst (λ xs. All (λ w. Contains (reads (assigned (b, o))) w) xs) (sym noted) (subst (λ a. All (λ w. Contains (reads a) w) h.more) sets h.within);
-      local = λ q same. h.local q (subst (λ a. Agree h.more a q) (sym sets) (subst (λ xs. Agree xs (assigned (b, o)) q) noted same));
-    }
+-- what was read after a view forgot what it had noted
+pub was_read : (right : Assignment → Set) (reads : Assignment → List ℕ) (u before after w : Seen) (id : ℕ) (noted : List ℕ) → Gives right reads before after id → Stays u before → before.noted ≡ [] → Stays after w → noted ≡ after.noted
+    → (id < length w.numbers) × WasRead right reads (tables u) noted (set_at w.numbers id)
+was_read right reads u before after w id noted g s none t now =
+    let h = g.reads in
+    let sets : assignment_of (sets before) ≡ assigned (tables u) = ap (λ (m : Map). assignment_of m) (stays-sets u before s) ∙ assigned-overlaid (solved u) u.work in
+    let listed : noted ≡ h.more = now ∙ h.noted ∙ ap (λ xs. xs ++ h.more) none in
+    let kept = is_number-grew after.numbers w.numbers id g.set t.keeps.numbers g.numbered in (
+      kept.below,
+      record {
+        value = kept.is ∙ h.value ∙ ap right sets;
+        within = subst (λ xs. All (λ w. Contains (reads (assigned (tables u))) w) xs) (sym listed) (subst (λ a. All (λ w. Contains (reads a) w) h.more) sets h.within);
+        local = λ q same. h.local q (subst (λ a. Agree h.more a q) (sym sets) (subst (λ xs. Agree xs (assigned (tables u)) q) listed same)) ∙ sym kept.is;
+      },
+    )
+
+-- what was read, by a number that was given while more are
+pub read_grew : (right : Assignment → Set) (reads : Assignment → List ℕ) (t : Map × Map) (noted : List ℕ) (xs ys : List Set) (id : ℕ) → Grew xs ys → id < length xs → WasRead right reads t noted (set_at xs id) → WasRead right reads t noted (set_at ys id)
+read_grew right reads t noted xs ys id g l h = subst (λ s. WasRead right reads t noted s) (sym (set-kept xs ys id g l)) h
+
+-- tables that stay
+pub tables_stay : (u v : Seen) → Stays u v → tables v ≡ tables u
+tables_stay u v h = λ i. (kept_solved u v h.keeps i, h.work i)
+
+pub added_stay : (u v : Seen) (q : Map × List ℕ) (run ws : List ℕ) → Stays u v → q ≡ extended (solved v) (v.work, run) ws → q ≡ extended (solved u) (u.work, run) ws
+added_stay u v q run ws h e = e ∙ ap (λ (t : Map × Map). extended t.0 (t.1, run) ws) (tables_stay u v h)
 
 pub Contains-cons_cases : (x : ℕ) (xs : List ℕ) (w : ℕ) → Contains (x ∷ xs) w → (x ≡ w) ⊎ Contains xs w
 Contains-cons_cases x xs w (zero, l, e) = inl e
@@ -201,3 +223,24 @@ module _ (count limit : ℕ) (right : ℕ → Assignment → Set) (mono : Monoto
   first_has b o run v q be oe re qe lt =
       let f = found-none b o be oe v in
       subst (λ (x : Map × List ℕ). HasSet (b, x.0) v) (sym (first_added b o run v q f qe)) (has-itself b o v none (found-first b o v f))
+
+-- the loop that adds what was read
+pub record Adding (start now : Seen) (run run' ws : List ℕ) (i : ℕ) : Type 0 where
+  pub keeps : Keeps start now
+  pub same : extended (solved start) (now.work, run') (drop i ws) ≡ extended (solved start) (start.work, run) ws
+
+pub adding-none : (start : Seen) (run ws : List ℕ) → Adding start start run run ws 0
+adding-none start run ws = record { keeps = keeps-refl start; same = refl }
+
+pub adding-more : (start now next : Seen) (run run' run'' ws : List ℕ) (i : ℕ) → Adding start now run run' ws i → i < length ws → Keeps now next
+    → (next.work, run'') ≡ added_by (found (tables now) (get_or ws i 0)) now.work run' (get_or ws i 0) → Adding start next run run'' ws (i + 1)
+adding-more start now next run run' run'' ws i h l k e = record {
+  keeps = keeps-trans start now next h.keeps k;
+  same =
+      ap (λ (p : Map × List ℕ). extended (solved start) p (drop (i + 1) ws)) (e ∙ ap (λ b. added_by (found (b, now.work) (get_or ws i 0)) now.work run' (get_or ws i 0)) (kept_solved start now h.keeps))
+      ∙ ap (λ vs. extended (solved start) (now.work, run') vs) (sym (drop-next ws i l)) ∙ h.same;
+}
+
+-- equal numbers are of one set
+pub same_below : (xs : List Set) (id other : ℕ) → id ≡ other → true ≡ is_below (set_at xs id) (set_at xs other)
+same_below xs id other e = sym (ap (λ n. is_below (set_at xs id) (set_at xs n)) (sym e) ∙ (below-refl (set_at xs id)).is)

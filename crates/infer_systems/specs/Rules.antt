@@ -1,11 +1,11 @@
 -- What the rules of a small system say: the right side of each, and the variables that it takes.
-use Rattle.std.specs.Prelude.{ℕ, ◌%◌, cond, List, [], ◌∷◌, ◌++◌, Some, None, slice_index_or}
+use Rattle.std.specs.Prelude.{ℕ, zero, suc, ◌+◌, ◌%◌, cond, List, [], ◌∷◌, ◌++◌, Some, None, slice_index_or}
 use Rattle.std.specs.FinSet as set
 use Rattle.infer_sets.specs.declared.abs_val.AbsVal.TheVariants.{Module}
 use Rattle.infer_sets.specs.Sets.{Set, none, joined, is_below}
 use Rattle.infer_equations.specs.Assignment.{Assignment}
 use Rattle.infer_systems.specs.declared.rule.Rule.{Rule}
-use Rattle.infer_systems.specs.declared.rule.Rule.TheVariants.{Nothing, Unknown, Value, Copy, More, Both, When}
+use Rattle.infer_systems.specs.declared.rule.Rule.TheVariants.{Nothing, Unknown, Value, Copy, More, Both, When, Row}
 
 -- the set of the value of a number
 abbrev pub value_of : ℕ → Set
@@ -37,6 +37,15 @@ gated_reads w s a = cond (is_below s none) [] (w ∷ [])
 abbrev pub when_reads : ℕ → ℕ → Assignment → List ℕ
 when_reads v w a = (v ∷ []) ++ gated_reads w (a v) a
 
+-- the sets of n variables together, from v on and from the last of all `count` to the first
+abbrev pub row_right : ℕ → ℕ → ℕ → ℕ → Assignment → Set
+row_right count limit v zero a = none
+row_right count limit v (suc n) a = joined limit (row_right count limit v n a) (a ((v % count + n) % count))
+
+abbrev pub row_reads : ℕ → ℕ → ℕ → Assignment → List ℕ
+row_reads count v zero a = []
+row_reads count v (suc n) a = row_reads count v n a ++ ((v % count + n) % count ∷ [])
+
 -- the right side of a rule over `count` variables
 abbrev pub rule_right : ℕ → ℕ → Rule → Assignment → Set
 rule_right count limit Nothing a = none
@@ -46,6 +55,7 @@ rule_right count limit (Copy v) a = joined limit (a (v % count)) none
 rule_right count limit (More v n) a = joined limit (a (v % count)) (value_of n)
 rule_right count limit (Both v w) a = both_right limit (v % count) (w % count) a
 rule_right count limit (When v w) a = when_right limit (v % count) (w % count) a
+rule_right count limit (Row v n) a = row_right count limit v n a
 
 -- the variables that it takes
 abbrev pub rule_reads : ℕ → Rule → Assignment → List ℕ
@@ -56,6 +66,7 @@ rule_reads count (Copy v) a = with_reads (v % count)
 rule_reads count (More v n) a = with_reads (v % count)
 rule_reads count (Both v w) a = both_reads (v % count) (w % count) a
 rule_reads count (When v w) a = when_reads (v % count) (w % count) a
+rule_reads count (Row v n) a = row_reads count v n a
 
 -- the rule of a variable
 abbrev pub rule_at : List Rule → ℕ → Rule

@@ -3,7 +3,7 @@ ghost use Rattle.std.specs.Prelude.{◌≡◌, ℕ, ◌<◌, length};
 
 use crate::system::System;
 use infer_core::{Equations, Steps, View};
-use infer_sets::AbsSet;
+use infer_sets::SetId;
 use lint_values::Memory;
 use std::alloc::Global;
 use std::cell::Cell;
@@ -59,7 +59,7 @@ impl<'a> Equations for Counted<'a> {
         var: u64,
         view: &mut View,
         steps: &mut Steps<L>,
-    ) -> Result<AbsSet, Memory> {
+    ) -> Result<SetId, Memory> {
         self.evaluations.set(self.evaluations.get().wrapping_add(1));
         self.system.eval(alloc, var, view, steps)
     }

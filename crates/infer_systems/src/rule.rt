@@ -18,4 +18,6 @@ pub enum Rule {
     Both(u64, u64),
     /// The set of the second variable where that of the first is not empty, and else no value.
     When(u64, u64),
+    /// The sets of several variables together: the first of them, and how many, one after another.
+    Row(u64, u32),
 }

@@ -1,13 +1,14 @@
 // Equations given by a list of rules.
-ghost use Rattle.std.specs.Prelude.{◌≡◌, ℕ, ◌<◌, ◌%◌, IfOk, length, Some};
+ghost use Rattle.std.specs.Prelude.{◌≡◌, ℕ, ◌<◌, ◌^◌, ◌%◌, IfOk, length, Some};
 ghost use Rattle.std.specs.FinSet as set;
 ghost use Rattle.infer_sets.specs.Sets.{joined, Set};
-ghost use Rattle.infer_equations.specs.Reading.{Reads};
-ghost use Rattle.infer_systems.specs.Rules.{value_of, with_reads, both_right, both_reads, when_right, when_reads, rule_right, rule_reads, rule_at, no_reads};
+ghost use Rattle.infer_equations.specs.Seen.{Stays};
+ghost use Rattle.infer_equations.specs.Reading.{Gives};
+ghost use Rattle.infer_systems.specs.Rules.{value_of, with_reads, both_right, both_reads, when_right, when_reads, rule_right, rule_reads, rule_at, no_reads, row_right, row_reads};
 
 use crate::rule::Rule;
 use infer_core::{Equations, Steps, View};
-use infer_sets::{AbsSet, AbsVal};
+use infer_sets::{AbsSet, AbsVal, SetId};
 use lint_values::{FileId, Memory};
 use std::alloc::Global;
 use std::sync::ledger::Ledger;
@@ -25,35 +26,32 @@ fn one(alloc: Global, number: u32) -> Result<AbsSet, Memory>
     AbsSet::one(alloc, AbsVal::Module(FileId(number)))
 }
 
+// A set that needs no reading.
+fn constant(alloc: Global, limit: u32, number: u32) -> Result<AbsSet, Memory>
+    ensures { IfOk result (λ s. s ≡ joined limit (value_of number) (value_of number)) }
+{
+    let set = one(alloc, number)?;
+    set.join(alloc, &set, limit)
+}
+
 // The set of a variable with more values.
-fn with(
-    alloc: Global,
-    limit: u32,
-    var: u64,
-    more: &AbsSet,
-    view: &mut View,
-) -> Result<AbsSet, Memory>
-    ensures kept { view.new.sets ≡ view.old.sets }
-    ensures reads { IfOk result (λ s. Reads (λ a. joined limit (a var) more.now) (λ _. with_reads var) view.old view.new s) }
+fn with(limit: u32, var: u64, more: AbsSet, view: &mut View) -> Result<SetId, Memory>
+    ensures stays { Stays view.old view.new }
+    ensures gives { IfOk result (λ id. Gives (λ a. joined limit (a var) more) (λ _. with_reads var) view.old view.new id) }
 {
     let set = view.get(var)?;
-    set.join(alloc, more, limit)
+    let other = view.number(more)?;
+    view.join(set, other, limit)
 }
 
 // The sets of two variables together.
-fn both(
-    alloc: Global,
-    limit: u32,
-    first: u64,
-    second: u64,
-    view: &mut View,
-) -> Result<AbsSet, Memory>
-    ensures kept { view.new.sets ≡ view.old.sets }
-    ensures reads { IfOk result (λ s. Reads (both_right limit first second) (both_reads first second) view.old view.new s) }
+fn both(limit: u32, first: u64, second: u64, view: &mut View) -> Result<SetId, Memory>
+    ensures stays { Stays view.old view.new }
+    ensures gives { IfOk result (λ id. Gives (both_right limit first second) (both_reads first second) view.old view.new id) }
 {
     let set = view.get(first)?;
     let more = view.get(second)?;
-    set.join(alloc, more, limit)
+    view.join(set, more, limit)
 }
 
 // The set of the second variable where that of the first is not empty.
@@ -63,24 +61,39 @@ fn when(
     first: u64,
     second: u64,
     view: &mut View,
-) -> Result<AbsSet, Memory>
-    ensures kept { view.new.sets ≡ view.old.sets }
-    ensures reads { IfOk result (λ s. Reads (when_right limit first second) (when_reads first second) view.old view.new s) }
+) -> Result<SetId, Memory>
+    ensures stays { Stays view.old view.new }
+    ensures gives { IfOk result (λ id. Gives (when_right limit first second) (when_reads first second) view.old view.new id) }
 {
     let none = AbsSet::empty(alloc);
     let set = view.get(first)?;
-    if set.is_within(&none) {
-        return Ok(none);
+    if view.set(set).is_within(&none) {
+        return view.number(none);
     }
-    with(alloc, limit, second, &none, view)
+    with(limit, second, none, view)
 }
 
-// A set that needs no reading.
-fn constant(alloc: Global, limit: u32, number: u32) -> Result<AbsSet, Memory>
-    ensures { IfOk result (λ s. s ≡ joined limit (value_of number) (value_of number)) }
+// The sets of several variables together, from one on.
+fn row(
+    alloc: Global,
+    limit: u32,
+    count: u64,
+    first: u64,
+    many: u32,
+    view: &mut View,
+) -> Result<SetId, Memory>
+    requires some { 0 < count }
+    requires count { count < 2 ^ 63 }
+    ensures stays { Stays view.old view.new }
+    ensures gives { IfOk result (λ id. Gives (row_right count limit first many) (row_reads count first many) view.old view.new id) }
 {
-    let set = one(alloc, number)?;
-    set.join(alloc, &set, limit)
+    let start = first % count;
+    let mut set = view.number(AbsSet::empty(alloc))?;
+    for place in 0..many {
+        let more = view.get((start + place as u64) % count)?;
+        set = view.join(set, more, limit)?;
+    }
+    Ok(set)
 }
 
 // The right side of a rule, over `count` variables.
@@ -90,19 +103,21 @@ fn right_side(
     count: u64,
     rule: Rule,
     view: &mut View,
-) -> Result<AbsSet, Memory>
-    requires { 0 < count }
-    ensures kept { view.new.sets ≡ view.old.sets }
-    ensures reads { IfOk result (λ s. Reads (rule_right count limit rule) (rule_reads count rule) view.old view.new s) }
+) -> Result<SetId, Memory>
+    requires some { 0 < count }
+    requires count { count < 2 ^ 63 }
+    ensures stays { Stays view.old view.new }
+    ensures gives { IfOk result (λ id. Gives (rule_right count limit rule) (rule_reads count rule) view.old view.new id) }
 {
     match rule {
-        Rule::Nothing => Ok(AbsSet::empty(alloc)),
-        Rule::Unknown => Ok(AbsSet::uninferable()),
-        Rule::Value(number) => constant(alloc, limit, number),
-        Rule::Copy(var) => with(alloc, limit, var % count, &AbsSet::empty(alloc), view),
-        Rule::More(var, number) => with(alloc, limit, var % count, &one(alloc, number)?, view),
-        Rule::Both(first, second) => both(alloc, limit, first % count, second % count, view),
+        Rule::Nothing => view.number(AbsSet::empty(alloc)),
+        Rule::Unknown => view.number(AbsSet::uninferable()),
+        Rule::Value(number) => view.number(constant(alloc, limit, number)?),
+        Rule::Copy(var) => with(limit, var % count, AbsSet::empty(alloc), view),
+        Rule::More(var, number) => with(limit, var % count, one(alloc, number)?, view),
+        Rule::Both(first, second) => both(limit, first % count, second % count, view),
         Rule::When(first, second) => when(alloc, limit, first % count, second % count, view),
+        Rule::Row(first, many) => row(alloc, limit, count, first, many, view),
     }
 }
 
@@ -133,7 +148,7 @@ impl Equations for System {
         var: u64,
         view: &mut View,
         steps: &mut Steps<L>,
-    ) -> Result<AbsSet, Memory> {
+    ) -> Result<SetId, Memory> {
         steps.tick();
         let rule = self.rules[var as usize];
         right_side(alloc, self.limit, self.rules.len() as u64, rule, view)

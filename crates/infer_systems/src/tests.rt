@@ -299,14 +299,63 @@ fn random_system(alloc: Global, seed: &mut u64) -> Result<System, Memory> {
     })
 }
 
+// The digest so far, and then the sets that one solver gives.
+fn digest_on<E: Equations, L: Ledger>(
+    solver: &mut Solver<E>,
+    count: u64,
+    before: u64,
+    steps: &mut Steps<L>,
+) -> Result<u64, Memory>
+    requires { count ≤ E.count_of solver.old.equations }
+    ensures { solver.new.equations ≡ solver.old.equations }
+{
+    let mut digest = before;
+    for var in 0..count {
+        let bits = bits_of(solver.demand(var, steps)?);
+        digest = digest
+            .wrapping_mul(6364136223846793005)
+            .wrapping_add(bits as u64);
+    }
+    Ok(digest)
+}
+
+fn digest_by<L: Ledger>(
+    alloc: Global,
+    system: &System,
+    before: u64,
+    blank: Blank,
+) -> Result<u64, Memory>
+    requires name { blank.name ≡ L.name }
+    requires parts { blank.parts ≡ L.parts }
+    requires some { 0 < blank.parts }
+{
+    let mut steps = Steps::<L>::new(blank);
+    let base = Frozen::empty(alloc);
+    let mut solver = Solver::new(alloc, system, &base);
+    digest_on(&mut solver, system.var_count(), before, &mut steps)
+}
+
+fn digest_of(alloc: Global, system: &System, before: u64) -> Result<u64, Memory> {
+    digest_by::<Brand>(alloc, system, before, Blank::new(1))
+}
+
+// How many variables the systems have together, and the digest of their sets, as tools/random_systems.py finds them.
+const SEEDED: (u64, u64) = (1330, 15272535771660217250);
+
 #[test]
 fn the_solvers_agree_on_systems_from_a_seed(rt: HostRuntime) -> Result<(), Fail> {
     let alloc = rt.alloc();
     let mut seed = 1u64;
+    let mut count = 0u64;
+    let mut digest = 0u64;
     for number in 0..200u32 {
         let system = random_system(alloc, &mut seed)?;
         assert_eq!(rt; all_alike(alloc, &system)?, system.var_count(), "{number}");
+        count = count.saturating_add(system.var_count());
+        digest = digest_of(alloc, &system, digest)?;
     }
+    assert_eq!(rt; count, SEEDED.0);
+    assert_eq!(rt; digest, SEEDED.1);
     Ok(())
 }
 

@@ -11,7 +11,7 @@ use Rattle.mro_c3.specs.Order.{bases, merged_lists, BasesAreBelow, IsOrder, line
 use Rattle.mro_c3.specs.Subsequence.{IsSubsequence, kept, left_out}
 use Rattle.mro_c3.proofs.MergeLaws.{Merges-unique, occurrences-merged_from, occurrences-merged_to, occurrences-merged_once, IsSubsequence-merged}
 use Rattle.mro_c3.proofs.Occurrences.{occurrences-nil, occurrences-cons, occurrences-same, occurrences-other, occurrences-append, occurrences-concat, same_or_other, Contains-cases, Contains-here, Contains-there, Contains-none, Contains-from_occurrences, occurrences-from_Contains}
-use Rattle.mro_c3.proofs.SubsequenceLaws.{IsSubsequence-same, IsSubsequence-through}
+use Rattle.mro_c3.proofs.SubsequenceLaws.{IsSubsequence-same, IsSubsequence-through, occurrences-subsequence}
 
 -- two tables that agree at each base merge the same lists
 pub map_same : (f g : ℕ → List ℕ) (row : List ℕ) → ((base : ℕ) → Contains row base → f base ≡ g base) → map f row ≡ map g row
@@ -153,5 +153,6 @@ IsLinear-order rows k order below is = record {
       let reached : Reaches rows k n = Reaches-member rows n is (occurrences-from_Contains order n there) in
       let higher = IsOrder-reached rows reached is in
       IsSubsequence-through (IsSubsequence-row rows higher.1) (IsSubsequence-reached rows reached is higher.1);
+  distinct = λ n. omega (arith, occurrences-subsequence (IsSubsequence-row rows is) n, occurrences-cons k (bases rows k) n, occurrences-once rows below n is);
   monotone = λ n above there is_above. IsSubsequence-reached rows (Reaches-member rows n is (occurrences-from_Contains order n there)) is is_above;
 }

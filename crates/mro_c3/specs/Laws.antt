@@ -13,5 +13,7 @@ pub record IsLinear (rows : List (List ℕ)) (k : ℕ) (order : List ℕ) : Type
   pub once : (n : ℕ) → occurrences order n ≤ 1
   -- each class stands before its bases, and these stand in the order of its row
   pub precedence : (n : ℕ) → Contains order n → IsSubsequence (n ∷ bases rows n) order
+  -- no base stands twice in the class's row: a class with a repeated base has no order
+  pub distinct : (n : ℕ) → occurrences (bases rows k) n ≤ 1
   -- it keeps the order of each class that it holds
   pub monotone : (n : ℕ) (above : List ℕ) → Contains order n → IsOrder rows n above → IsSubsequence above order

@@ -27,6 +27,15 @@ impl Row {
         Row { bases }
     }
 
+    /// The numbers themselves, with their memory.
+    pub fn into_vec(self) -> Vec<usize>
+        ensures { result.items ≡ self }
+    {
+        let Row { bases } = self;
+        bases
+    }
+
+    /// The numbers of the bases, in order.
     pub fn as_slice(&self) -> &[usize]
         ensures { result.now ≡ self.now }
     {
@@ -83,6 +92,7 @@ impl Order {
         classes
     }
 
+    /// The numbers of the class and its ancestors, in order.
     pub fn as_slice(&self) -> &[usize]
         ensures { result.now ≡ self.now }
     {

@@ -1,9 +1,6 @@
-use Rattle.std.proofs.Common.{subst, sym}
-use Rattle.infer_reached.specs.Extension.{WasRead}
 use Rattle.infer_reached.proofs.Extension.{was_read}
 use Rattle.infer_reached.proofs.visit.evaluate.Goals as goal
 
 pub returns-clause-read : goal.returns-clause-read
 returns-clause-read g c =
-    subst (λ xs. WasRead (g.E.Equations.right c.args.eqs.now c.args.var) (g.E.Equations.reads c.args.eqs.now c.args.var) (c.args.base.now, c.args.own.now) xs c.in_ok-set.set) (sym c.into_noted.ensures)
-    (was_read _ _ _ _ _ _ _ c.new-view.ensures c.in_ok-set.ensures.reads)
+    let h = was_read _ _ _ _ _ _ _ _ c.in_ok-set.ensures.gives c.take_noted.ensures.stays c.take_noted.ensures.none c.take_noted-2.ensures.stays c.take_noted-2.ensures.value in h.1

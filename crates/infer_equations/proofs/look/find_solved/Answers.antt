@@ -1,0 +1,8 @@
+use Rattle.infer_equations.proofs.Overlay.{first_some, first_none}
+use Rattle.infer_equations.proofs.look.find_solved.Goals as goal
+
+pub returns-in-Some : goal.returns-in-Some
+returns-in-Some c = first_some c.in-Some.id c.args.base.now c.args.own.now c.args.var c.in-Some.ensures
+
+pub returns-in-None : goal.returns-in-None
+returns-in-None c = first_none _ c.args.base.now c.args.own.now c.args.var c.in-None.ensures c.find-in-None.ensures

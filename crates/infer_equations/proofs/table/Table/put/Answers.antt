@@ -1,7 +1,0 @@
-use Rattle.std.proofs.Common.{◌∙◌, ap}
-use Rattle.std.specs.FinMap.{insert}
-use Rattle.infer_equations.proofs.Entries.{insert-entries_map}
-use Rattle.infer_equations.proofs.table.Table.put.Goals as goal
-
-pub returns-clause-ok : goal.returns-clause-ok
-returns-clause-ok c = insert-entries_map c.self.inside.entries.entries _ c.args.var c.args.set c.in_ok-insert.ensures.updates.0 ∙ ap (λ m. insert m c.args.var c.args.set) c.self.view_is
