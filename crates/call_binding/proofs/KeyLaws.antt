@@ -192,6 +192,12 @@ param_given f a b i u view low e =
     counted : i < length f.params → i < length (fates_of f a).params
     counted low = let long = params_length f a in omega arith
 
+pub params_seen : (f : Formals) (a : Actuals) (b : Fates) → fates_of f a ≡ b → length f.params ≡ length b.params
+params_seen f a b view = sym (params_length f a) ∙ ap (λ (c : Fates). length c.params) view
+
+pub keywords_seen : (f : Formals) (a : Actuals) (b : Fates) → fates_of f a ≡ b → length a.keywords ≡ length b.keywords
+keywords_seen f a b view = sym (keywords_length f a) ∙ ap (λ (c : Fates). length c.keywords) view
+
 pub param_counted : (f : Formals) (a : Actuals) (b : Fates) (i : ℕ) → fates_of f a ≡ b → i < length b.params → i < length f.params
 param_counted f a b i view low = let long : length b.params ≡ length f.params = ap (λ (c : Fates). length c.params) (sym view) ∙ params_length f a in omega arith
 

@@ -1,10 +1,14 @@
 -- Each plain argument is taken once, by a parameter or by `*`, or is surplus.
-use Rattle.std.proofs.Common.{◌≡◌, ℕ, zero, suc, ◌+◌, ◌-◌, ◌<◌, ◌≤◌, Bool, true, false, cond, List, [], ◌∷◌, length, take, get_or, refl, sym, ap, subst, ◌∙◌, arith, ◌⊎◌, inl, inr, ⊎_elim}
+use Rattle.std.proofs.Common.{◌≡◌, ℕ, zero, suc, ◌+◌, ◌-◌, ◌<◌, ◌≤◌, Bool, true, false, cond, List, [], ◌∷◌, length, take, get_or, refl, sym, ap, subst, ◌∙◌, arith, Some, ◌⊎◌, inl, inr, ⊎_elim}
 use Rattle.call_binding.specs.declared.fate.ParamFate.{ParamFate}
 use Rattle.call_binding.specs.declared.fate.ParamFate.TheVariants as param
-use Rattle.call_binding.specs.Parameters.{Parameter, Formals, Actuals, Fates, takes_position, parameter_at, no_parameter, positions, positions_before, receivers}
-use Rattle.call_binding.specs.Rule.{TakesPlace, ReceiverGoes, PlainGoes, Goes, HasArgument, IsParamFate, has_var_positional, left_over, param_fate, IsBinding}
-use Rattle.call_binding.specs.Laws.{IsTakenOnce, IsTakenByNone, IsSurplus, IsInStar, IsPlainTaken}
+use Rattle.call_binding.specs.Parameters.{Parameter, Formals, Actuals, Fates, takes_position, parameter_at, no_parameter, keyword_at, positions, positions_before, receivers}
+use Rattle.call_binding.specs.Rule.{TakesPlace, ReceiverGoes, PlainGoes, Goes, HasArgument, IsParamFate, has_var_positional, left_over, param_fate, key_fate, target, IsBinding}
+use Rattle.call_binding.specs.Laws.{IsTakenOnce, IsTakenByNone, IsSurplus, IsInStar, IsPlainTaken, IsByKeyword, IsGiven}
+use Rattle.std.specs.List.{slice_get}
+use Rattle.std.proofs.lemmas.Option.{get_or_from_slice_get, slice_get_within}
+use Rattle.call_binding.specs.declared.fate.KeyFate.TheVariants as key
+use Rattle.call_binding.proofs.KeyLaws.{one_key_fate}
 use Rattle.call_binding.proofs.CountLaws.{positions_more}
 use Rattle.call_binding.proofs.FateLaws.{one_param_fate, one_receiver, apart}
 
@@ -127,3 +131,31 @@ pub plain_taken : (f : Formals) (a : Actuals) (b : Fates) (n : ℕ) → IsBindin
 plain_taken f a b n h given =
     ⊎_elim (λ low. inl (taken-once f a b n h given (place-of f.params (receivers f + n) low)))
     (λ high. inr (beyond f a b n h given high (has_var_positional f.params) refl)) (less_or_not (receivers f + n) (positions f.params))
+
+-- ---- the argument of a parameter
+
+has-bound : (f : Formals) (a : Actuals) (b : Fates) (i n : ℕ) → IsBinding f a b → slice_get b.params i ≡ Some (param.Arg n) → HasArgument f a i n
+has-bound f a b i n h e =
+    let P : ParamFate → Type 0 = λ u. IsParamFate f a i u in
+    subst P (get_or_from_slice_get b.params i (param.Arg n) param.Missing e) (h.params i (counted (slice_get_within b.params i (param.Arg n) e)))
+  where
+    counted : i < length b.params → i < length f.params
+    counted low = let long = h.each_param in omega arith
+
+-- a keyword whose argument a parameter has takes that parameter
+takes-it : (f : Formals) (a : Actuals) (b : Fates) (i n j : ℕ) → IsBinding f a b → HasArgument f a i n → n ≡ a.positionals + j → j < length a.keywords → target f.params (keyword_at a.keywords j) ≡ Some i → key_fate b j ≡ key.Takes i
+takes-it f a b i n j h has number given goes =
+    let P : ℕ → Type 0 = λ m. HasArgument f a i m in
+    one_key_fate f a j (key_fate b j) (h.keywords j given) ∙ sym (one_key_fate f a j (key.Takes i) (record { goes = goes; has = subst P number has }))
+
+pub given_by : (f : Formals) (a : Actuals) (b : Fates) (i n : ℕ) → IsBinding f a b → slice_get b.params i ≡ Some (param.Arg n) → IsGiven a b i n
+given_by f a b i n h e = by_goes (has-bound f a b i n h e) (has-bound f a b i n h e).goes
+  where
+    by_goes : HasArgument f a i n → Goes f a n i → IsGiven a b i n
+    by_goes has (inl plain) = inl plain.given
+    by_goes has (inr word) = inr (record {
+      keyword = word.keyword;
+      number = word.number;
+      given = word.given;
+      takes = takes-it f a b i n word.keyword h has word.number word.given word.goes;
+    })

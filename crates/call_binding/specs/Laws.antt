@@ -5,7 +5,7 @@ use Rattle.call_binding.specs.declared.fate.KeyFate.{KeyFate}
 use Rattle.call_binding.specs.declared.fate.KeyFate.TheVariants as key
 use Rattle.call_binding.specs.declared.fate.ParamFate.{ParamFate}
 use Rattle.call_binding.specs.Parameters.{Formals, Actuals, Fates, positions, receivers}
-use Rattle.call_binding.specs.Rule.{IsParamFate, IsKeyFate, IsBinding, has_var_positional, param_fate}
+use Rattle.call_binding.specs.Rule.{IsParamFate, IsKeyFate, IsBinding, has_var_positional, param_fate, key_fate}
 
 -- exactly one fate of a parameter
 pub record HasOneFate (f : Formals) (a : Actuals) (i : ℕ) : Type 0 where
@@ -51,3 +51,14 @@ pub record IsInStar (f : Formals) (b : Fates) (n : ℕ) : Type 0 where
 -- each plain argument is taken once or is surplus
 abbrev pub IsPlainTaken : Formals → Actuals → Fates → ℕ → Type 0
 IsPlainTaken f a b n = IsTakenOnce b (length f.params) n ⊎ (IsInStar f b n ⊎ IsSurplus f a b n)
+
+-- a keyword's argument is what the parameter has that the keyword goes to
+pub record IsByKeyword (a : Actuals) (b : Fates) (i n : ℕ) : Type 0 where
+  pub keyword : ℕ
+  pub number : n ≡ a.positionals + keyword
+  pub given : keyword < length a.keywords
+  pub takes : key_fate b keyword ≡ key.Takes i
+
+-- a parameter's argument is a plain one, or one whose keyword it takes
+abbrev pub IsGiven : Actuals → Fates → ℕ → ℕ → Type 0
+IsGiven a b i n = (n < a.positionals) ⊎ IsByKeyword a b i n

@@ -1,6 +1,6 @@
 -- Call binding: Python's rule on what a call gives to each parameter, as a relation between what a function takes, what a
 -- call gives and what came of each, without an order of trying.
-use Rattle.std.specs.Prelude.{◌≡◌, ℕ, ◌+◌, ◌-◌, ◌<◌, Bool, true, false, if◌then◌else◌, ◌⊎◌, List, length, take, Option, Some, None, slice_get, slice_index_or}
+use Rattle.std.specs.Prelude.{◌≡◌, ℕ, ◌+◌, ◌-◌, ◌<◌, nat_lt, Bool, true, false, ◌||◌, if◌then◌else◌, ◌⊎◌, List, length, take, Option, Some, None, slice_index_or}
 use Rattle.std.specs.List.{position_from, list_any}
 use Rattle.std.specs.Str.{bytes_eq}
 use Rattle.scope_rules.specs.Nodes.{Name}
@@ -137,10 +137,22 @@ pub record IsBinding (f : Formals) (a : Actuals) (b : Fates) : Type 0 where
 
 -- ---- mismatches
 
+-- a parameter has no value
+abbrev pub is_missing : ParamFate → Bool
+is_missing (param.Arg n) = false
+is_missing param.Receiver = false
+is_missing param.Default = false
+is_missing param.Rest = false
+is_missing param.Missing = true
+
+-- a name is given twice, or not taken
+abbrev pub is_refused : KeyFate → Bool
+is_refused (key.Takes i) = false
+is_refused key.Rest = false
+is_refused (key.Twice i) = true
+is_refused key.PositionalOnly = true
+is_refused key.Unexpected = true
+
 -- a call does not fit: a missing value, a surplus, a name given twice or not taken
-pub data IsMismatch (b : Fates) : Type 0 where
-  missing : (i : ℕ) → slice_get b.params i ≡ Some param.Missing → IsMismatch b
-  surplus : 0 < b.surplus → IsMismatch b
-  twice : (j i : ℕ) → slice_get b.keywords j ≡ Some (key.Twice i) → IsMismatch b
-  positional_only : (j : ℕ) → slice_get b.keywords j ≡ Some key.PositionalOnly → IsMismatch b
-  unexpected : (j : ℕ) → slice_get b.keywords j ≡ Some key.Unexpected → IsMismatch b
+abbrev pub is_mismatch : Fates → Bool
+is_mismatch b = list_any is_missing b.params || (nat_lt 0 b.surplus || list_any is_refused b.keywords)

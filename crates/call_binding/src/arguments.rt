@@ -76,6 +76,27 @@ pub(crate) fn has_private(tree: &Tree, args: &[NodeId]) -> bool
     false
 }
 
+/// The plain argument of a number among some arguments.
+pub(crate) fn plain_node(tree: &Tree, args: &[NodeId], n: usize) -> NodeId
+    requires made { All (λ k. k.0 < count_of tree.now) args.now }
+    requires counted { n < length (plain_among tree.now (map number_of args.now)) }
+    ensures value { slice_get (plain_among tree.now (map number_of args.now)) n ≡ Some result.0 }
+    ensures made { result.0 < count_of tree.now }
+{
+    let mut rest = args;
+    let mut before = n;
+    while let [arg, tail @ ..] = rest {
+        if is_plain(tree.kind(*arg)) {
+            if before == 0 {
+                return *arg;
+            }
+            before -= 1;
+        }
+        rest = tail;
+    }
+    unreachable!()
+}
+
 /// The keyword of a number among some arguments.
 pub(crate) fn keyword_node(tree: &Tree, args: &[NodeId], j: usize) -> NodeId
     requires made { All (λ k. k.0 < count_of tree.now) args.now }

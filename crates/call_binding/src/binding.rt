@@ -1,9 +1,9 @@
 // What a call gives to each parameter of a function.
-ghost use Rattle.std.specs.Prelude.{◌≡◌, ◌+◌, ◌<◌, ◌^◌, false, length, slice_get, Some, IsTrue};
-ghost use Rattle.call_binding.specs.declared.fate.ParamFate.TheVariants as given;
+ghost use Rattle.std.specs.Prelude.{◌≡◌, ◌+◌, ◌<◌, ◌^◌, false, length, slice_get, Some};
+ghost use Rattle.std.specs.List.{list_any};
 ghost use Rattle.call_binding.specs.Parameters.{Fates, takes_position, takes_rest, parameter_at, keyword_at, positions_before};
 ghost use Rattle.call_binding.specs.Fates.{by_default, by_keyword, by_place, single_fate, param_fate_of, has_argument, taken_fate, untaken_fate, free_fate, key_fate_of, fates_of, keyword_for};
-ghost use Rattle.call_binding.specs.Rule.{var_keyword, left_over, IsBinding, IsMismatch};
+ghost use Rattle.call_binding.specs.Rule.{var_keyword, left_over, IsBinding, is_missing, is_refused, is_mismatch};
 
 use crate::{CallShape, KeyFate, ParamFate, ParameterKind, Signature};
 use std::marker::Model;
@@ -195,7 +195,34 @@ fn left_over(signature: &Signature, call: &CallShape) -> usize
     }
 }
 
+fn is_missing(fate: ParamFate) -> bool
+    ensures { result ≡ is_missing fate }
+{
+    matches!(fate, ParamFate::Missing)
+}
+
+fn is_refused(fate: KeyFate) -> bool
+    ensures { result ≡ is_refused fate }
+{
+    matches!(
+        fate,
+        KeyFate::Twice(_) | KeyFate::PositionalOnly | KeyFate::Unexpected
+    )
+}
+
 impl<'c> Binding<'c> {
+    fn params(&self) -> u32
+        ensures { result ≡ length self.now.params }
+    {
+        self.signature.params()
+    }
+
+    fn keywords(&self) -> u32
+        ensures { result ≡ length self.now.keywords }
+    {
+        self.call.keywords()
+    }
+
     /// What a parameter gets.
     #[tactic(auto, unfolding(crate::specs::Fates::fates_of))]
     pub fn param(&self, i: u32) -> ParamFate
@@ -220,5 +247,36 @@ impl<'c> Binding<'c> {
         ensures { result ≡ self.now.surplus }
     {
         left_over(self.signature, self.call) as u32
+    }
+
+    // Whether a parameter has no value.
+    fn misses(&self) -> bool
+        ensures { result ≡ list_any is_missing self.now.params }
+    {
+        for i in 0..self.params() {
+            if is_missing(self.param(i)) {
+                return true;
+            }
+        }
+        false
+    }
+
+    // Whether a name is given twice or not taken.
+    fn refuses(&self) -> bool
+        ensures { result ≡ list_any is_refused self.now.keywords }
+    {
+        for j in 0..self.keywords() {
+            if is_refused(self.keyword(j)) {
+                return true;
+            }
+        }
+        false
+    }
+
+    /// Whether the call does not fit: a missing value, a surplus, a name given twice or not taken.
+    pub fn is_mismatch(&self) -> bool
+        ensures { result ≡ is_mismatch self.now }
+    {
+        self.misses() || self.surplus() > 0 || self.refuses()
     }
 }

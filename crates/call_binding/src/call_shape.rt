@@ -31,8 +31,8 @@ impl<'w> Model for CallShape<'w> {
     ghost invariant = { λ c. c.call.0 < count_of c.tree.now };
 }
 
-// The arguments of a call.
-fn arguments_of(tree: &Tree, call: NodeId) -> &[NodeId]
+/// The arguments of a call.
+pub(crate) fn arguments_of(tree: &Tree, call: NodeId) -> &[NodeId]
     requires { call.0 < count_of tree.now }
     ensures value { map number_of result.now ≡ arguments_of tree.now call.0 }
     ensures made { All (λ k. k.0 < count_of tree.now) result.now }

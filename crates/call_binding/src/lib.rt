@@ -8,6 +8,7 @@ mod fate;
 mod kinds;
 mod laws;
 mod names;
+mod nodes;
 mod parameter_kind;
 mod parameters;
 mod places;
@@ -17,8 +18,9 @@ pub use binding::{Binding, bind_call};
 pub use call_shape::CallShape;
 pub use fate::{KeyFate, ParamFate};
 pub use laws::{
-    calls_have_one_binding, keywords_have_one_fate, parameters_have_one_fate,
-    plain_arguments_are_taken_once_or_surplus,
+    bound_arguments_are_given, calls_have_one_binding, keywords_have_one_fate,
+    parameters_have_one_fate, plain_arguments_are_taken_once_or_surplus,
 };
+pub use nodes::{argument, parameter};
 pub use parameter_kind::ParameterKind;
 pub use signature::Signature;
