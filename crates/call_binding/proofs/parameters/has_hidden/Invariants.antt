@@ -1,0 +1,17 @@
+use Rattle.std.proofs.Common.{◌≡◌, ◌<◌, ◌≤◌, ◌+◌, map, take, length, count_by}
+use Rattle.std.specs.Prelude.{All}
+use Rattle.tree_nodes.specs.Trees.{count_of}
+use Rattle.tree_nodes.specs.Kept.{number_of}
+use Rattle.call_binding.specs.Reading.{parameters_among}
+use Rattle.call_binding.specs.Parameters.{is_hidden}
+use Rattle.std.specs.List.{list_any}
+use Rattle.call_binding.proofs.parameters.has_hidden.Given as goal
+
+abbrev pub invariant-loop-rest : goal.invariant-loop-rest
+invariant-loop-rest l = record {
+  made : All (λ k. k.0 < count_of l.tree) l.rest;
+  same : list_any (is_hidden l.keyword) (parameters_among l.tree l.def.0 (map number_of l.rest)) ≡ list_any (is_hidden l.keyword) (parameters_among l.tree l.def.0 (map number_of l.parts));
+}
+
+abbrev pub decreases-loop-rest : goal.decreases-loop-rest
+decreases-loop-rest l = length l.rest
