@@ -104,11 +104,7 @@ fn first_case_decides_the_status(rt: HostRuntime) -> Result<(), Fail> {
     for (words, statements, categories, expected) in rows {
         let options = options_of(alloc, words)?;
         let found = found(alloc, statements, categories)?;
-        assert_eq!(rt;
-            status(&found, &options),
-            expected,
-            "{words} {categories}"
-        );
+        assert_eq!(rt; status(&found, &options), expected, "{words} {categories}");
     }
     Ok(())
 }
