@@ -44,7 +44,6 @@ FURTHER = [
     ("Mangling", "find (λ c. is_class (kind_of t c)) (chain t s)", "find (λ c. is_class (kind_of t c)) (reverse (chain t s))"),
     ("Mangling", "prefixed [] x = x", "prefixed [] x = 95 ∷ x"),
     ("Mangling", "prefixed [] x = x", "prefixed [] x = 95 ∷ 95 ∷ x"),
-    ("Places", "(if s == 0 then 0 ∷ [] else s ∷ chain_by k t (around t s))", "(if s == 0 then 0 ∷ [] else s ∷ 0 ∷ [])"),
 ]
 
 
