@@ -1,4 +1,7 @@
-use infer_sets::{AbsSet, AbsVal, BuiltinKind, ClassRef, Recv, join_is_least, within_is_an_order};
+use infer_sets::{
+    AbsSet, AbsVal, BuiltinKind, ClassRef, Recv, SetId, SetLayer, SetTable, join_is_least,
+    within_is_an_order,
+};
 use lint_values::{FileId, Memory, NodeId, NodeRef};
 use std::alloc::Global;
 use std::test::Fail;
@@ -146,5 +149,73 @@ fn crosses_threads<T: Send + Sync>(_value: &T) {}
 fn sets_cross_threads(rt: HostRuntime) -> Result<(), Fail> {
     crosses_threads(&AbsSet::one(rt.alloc(), VALUES[0])?);
     crosses_threads(&VALUES[1]);
+    Ok(())
+}
+
+fn class_set(alloc: Global, n: u32) -> Result<AbsSet, Memory> {
+    AbsSet::one(alloc, AbsVal::Class(ClassRef::Seen(node(n))))
+}
+
+// The number of Uninferable, and that of the join of two sets under a limit.
+fn numbers_of_join(
+    alloc: Global,
+    layer: &mut SetLayer,
+    first: AbsSet,
+    second: AbsSet,
+    limit: u32,
+) -> Result<(SetId, SetId), Memory> {
+    let set = first.join(alloc, &second, limit)?;
+    let unknown = layer.number(AbsSet::uninferable())?;
+    Ok((unknown, layer.number(set)?))
+}
+
+#[test]
+fn a_join_has_the_number_of_its_set(rt: HostRuntime) -> Result<(), Fail> {
+    let alloc = rt.alloc();
+    let mut base = SetTable::new(alloc);
+    let first = base.number(class_set(alloc, 0)?)?;
+    let mut layer = SetLayer::over(alloc, &base);
+    assert_eq!(rt; layer.number(class_set(alloc, 0)?)?, first);
+    let (unknown, under_one) = numbers_of_join(
+        alloc,
+        &mut layer,
+        class_set(alloc, 0)?,
+        class_set(alloc, 1)?,
+        1,
+    )?;
+    assert_eq!(rt; under_one, unknown);
+    let (unknown, under_two) = numbers_of_join(
+        alloc,
+        &mut layer,
+        class_set(alloc, 0)?,
+        class_set(alloc, 1)?,
+        2,
+    )?;
+    assert!(rt; under_two != unknown);
+    Ok(())
+}
+
+// The number of the join of two classes' sets, under a limit, beside that of Uninferable; and whether it is remembered for
+// the two, for the two the other way round, and under another limit.
+fn class_join(alloc: Global, limit: u32) -> Result<[bool; 4], Memory> {
+    let base = SetTable::new(alloc);
+    let mut layer = SetLayer::over(alloc, &base);
+    let unknown = layer.number(AbsSet::uninferable())?;
+    let first = layer.number(class_set(alloc, 0)?)?;
+    let second = layer.number(class_set(alloc, 1)?)?;
+    let join = layer.join(first, second, limit)?;
+    Ok([
+        join == unknown,
+        layer.joined(first, second, limit) == Some(join),
+        layer.joined(second, first, limit).is_none(),
+        layer.joined(first, second, limit ^ 8).is_none(),
+    ])
+}
+
+#[test]
+fn joins_are_remembered_as_they_were_called(rt: HostRuntime) -> Result<(), Fail> {
+    let alloc = rt.alloc();
+    assert_eq!(rt; class_join(alloc, 1)?, [true; 4]);
+    assert_eq!(rt; class_join(alloc, 2)?, [false, true, true, true]);
     Ok(())
 }
