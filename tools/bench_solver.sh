@@ -1,5 +1,5 @@
 #!/usr/bin/env bash
-# Times the solver on a ring, on layered random systems and on fans: each variable is demanded, the sets are merged into a frozen
+# Times the solver on a ring, on layered random systems, on fans, and on many variables with one set: each variable is demanded, the sets are merged into a frozen
 # table, and each variable is demanded again over it. Prints seconds of the processor, peak memory, and the evaluations of
 # the first and the second demands. No proof speaks of time or memory.
 root=$(dirname "$(dirname "$(readlink -f "$0")")")
@@ -16,3 +16,4 @@ for shape in ring layers; do
 done
 for size in 2000 20000 200000; do run fan "$size"; done
 for size in 1100 2200 4400; do run readers "$size"; done
+run shared 100000
